@@ -1,0 +1,21 @@
+-- Lists of rights: tables with their levels.
+use Rattle.std.specs.Prelude.{◌≢◌, ℕ, ◌+◌, ◌≤◌, ◌==◌, List, [], ◌∷◌, length, if◌then◌else◌}
+use Rattle.sp_base.specs.declared.rights.Level.{Level}
+use Rattle.sp_base.specs.declared.rights.Level.TheVariants.{Nothing}
+use Rattle.sp_base.specs.declared.numbers.TableId.{TableId}
+
+-- each table is at least this number, and above the one before it, and no level is Nothing
+abbrev pub RisesFrom : ℕ → List (TableId × Level) → Type 0
+RisesFrom least [] = Unit {0}
+RisesFrom least (right ∷ rest) =
+    (least ≤ right.0.0) × (right.1 ≢ Nothing) × RisesFrom (right.0.0 + 1) rest
+
+-- the tables strictly increase, there are at most 64, and no level is Nothing
+pub record AreRights (list : List (TableId × Level)) : Type 0 where
+  pub rising : RisesFrom 0 list
+  pub few : length list ≤ 64
+
+-- the level of a table: Nothing where no right names it
+abbrev pub level_of : List (TableId × Level) → ℕ → Level
+level_of [] table = Nothing
+level_of (right ∷ rest) table = if right.0.0 == table then right.1 else level_of rest table
