@@ -8,7 +8,10 @@ mod laws;
 mod run;
 mod tree;
 
-pub use laws::{greater_budgets_mean_the_same, known_records_decide};
+pub use laws::{
+    greater_budgets_mean_the_same, known_records_decide, only_readable_is_wanted,
+    only_writable_is_changed, runs_are_within_limits,
+};
 pub use run::Run;
 pub use tree::Program;
 
