@@ -1,4 +1,5 @@
 ghost use Rattle.std.specs.Prelude.{◌≡◌, ◌↔◌, IsTrue, IfOk, length};
+ghost use Rattle.std.specs.Str.{bytes_eq};
 
 use crate::memory::Memory;
 use std::alloc::Global;
@@ -71,7 +72,8 @@ impl Blob {
     }
 
     pub fn is_same(&self, other: &Blob) -> bool
-        ensures { IsTrue result ↔ (self.now ≡ other.now) }
+        ensures same { IsTrue result ↔ (self.now ≡ other.now) }
+        ensures value { result ≡ bytes_eq self.now other.now }
     {
         same_bytes(self.bytes.as_slice(), other.bytes.as_slice())
     }
@@ -79,7 +81,8 @@ impl Blob {
 
 /// Whether two slices have the same bytes.
 pub fn same_bytes(a: &[u8], b: &[u8]) -> bool
-    ensures { IsTrue result ↔ (a.now ≡ b.now) }
+    ensures same { IsTrue result ↔ (a.now ≡ b.now) }
+    ensures value { result ≡ bytes_eq a.now b.now }
 {
     a == b
 }

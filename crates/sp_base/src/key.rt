@@ -1,4 +1,5 @@
 ghost use Rattle.std.specs.Prelude.{◌≡◌, ◌≤◌, ◌↔◌, IsTrue, IfOk, IsErrOf, length, List, ℕ};
+ghost use Rattle.std.specs.Str.{bytes_eq};
 ghost use Rattle.sp_base.specs.Limits.{IsKey};
 
 use crate::blob::same_bytes;
@@ -70,7 +71,8 @@ impl Key {
     }
 
     pub fn is_same(&self, other: &Key) -> bool
-        ensures { IsTrue result ↔ (self.now ≡ other.now) }
+        ensures same { IsTrue result ↔ (self.now ≡ other.now) }
+        ensures value { result ≡ bytes_eq self.now other.now }
     {
         same_bytes(self.bytes.as_slice(), other.bytes.as_slice())
     }

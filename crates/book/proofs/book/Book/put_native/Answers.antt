@@ -1,0 +1,8 @@
+-- The journal with the put is sound.
+use Rattle.std.proofs.Common.{rules}
+use Rattle.book.proofs.Growing.{sound-grown}
+use Rattle.book.proofs.book.Book.put_native.Goals as goal
+
+pub append-requires-clause-sound : goal.append-requires-clause-sound
+append-requires-clause-sound c =
+    sound-grown _ _ c.journal.ensures.sound (search rules) c.requires tt tt (search rules)

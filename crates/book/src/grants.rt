@@ -1,0 +1,61 @@
+ghost use Rattle.std.specs.Prelude.{◌≡◌, ◌≢◌, ◌<◌, ◌^◌, IfOk, []};
+ghost use Rattle.sp_base.specs.RightsList.{level_of};
+ghost use Rattle.book.specs.GrantsList.{AreGrants, rights_of};
+
+use sp_base::{Level, Memory, Rights, TableId, TenantId};
+use std::alloc::Global;
+use std::marker::Model;
+
+/// The rights of each tenant. Contracts see the list.
+#[derive(Debug, Drop)]
+pub struct Grants {
+    list: Vec<(TenantId, Rights)>,
+}
+
+impl Model for Grants {
+    ghost use Rattle.std.specs.Prelude.{List};
+    ghost use Rattle.sp_base.specs.declared.numbers.TableId.{TableId};
+    ghost use Rattle.sp_base.specs.declared.numbers.TenantId.{TenantId};
+    ghost use Rattle.sp_base.specs.declared.rights.Level.{Level};
+    ghost use Rattle.book.specs.GrantsList.{AreGrants};
+
+    ghost Value = { List (TenantId × List (TableId × Level)) };
+
+    ghost view = { λ g. g.list.items };
+
+    ghost invariant = { λ g. AreGrants g.list.items };
+}
+
+impl Grants {
+    /// The rights of these tenants.
+    pub fn of(list: Vec<(TenantId, Rights)>) -> Grants
+        requires { AreGrants list.items }
+        ensures { result ≡ list.items }
+    {
+        Grants { list }
+    }
+
+    /// The level of a tenant at a table: `Nothing` for an unknown tenant.
+    pub fn level(&self, tenant: TenantId, table: TableId) -> Level
+        ensures { result ≡ level_of (rights_of self.now tenant) table.0 }
+    {
+        for (number, rights) in &self.list {
+            if *number == tenant {
+                return rights.level(u64::from(table.0));
+            }
+        }
+        Level::Nothing
+    }
+
+    /// A tenant's rights: none for an unknown tenant.
+    pub fn rights(&self, alloc: Global, tenant: TenantId) -> Result<Rights, Memory>
+        ensures { IfOk result (λ rights. rights ≡ rights_of self.now tenant) }
+    {
+        for (number, rights) in &self.list {
+            if *number == tenant {
+                return rights.share(alloc);
+            }
+        }
+        Ok(Rights::of(Vec::new(alloc)))
+    }
+}

@@ -1,0 +1,74 @@
+//! What a journal says of callers, tenants and reads, worked out from its first entry on.
+
+ghost use Rattle.std.specs.Prelude.{◌≡◌, ◌≤◌, length, map};
+ghost use Rattle.std.specs.Option.{option_copied};
+ghost use Rattle.book.specs.Folds.{texts_of, last_of};
+ghost use Rattle.book.specs.Verdict.{moved, without_value};
+
+use crate::entry::Entry;
+use crate::found::record_at;
+use sp_base::{Caller, ReadItem, Reads, TenantId};
+
+/// The number of a caller's last committed call, or 0.
+pub fn last_number(entries: &[Entry], caller: Caller) -> u64
+    ensures { result ≡ last_of entries.now caller }
+{
+    let mut last = 0;
+    for entry in entries {
+        if let Entry::Invoke { call, .. } = entry {
+            if call.caller == caller {
+                last = call.number.0;
+            }
+        }
+    }
+    last
+}
+
+/// How many extensions a tenant has installed.
+pub fn text_count(entries: &[Entry], tenant: TenantId) -> usize
+    ensures count { result ≡ length (texts_of entries.now tenant) }
+    ensures few { result ≤ length entries.now }
+{
+    let mut count = 0;
+    for entry in entries {
+        if let Entry::Install {
+            tenant: installer,
+            ..
+        } = entry
+        {
+            if *installer == tenant {
+                count += 1;
+            }
+        }
+    }
+    count
+}
+
+/// The first read whose version has moved.
+pub fn first_moved<'a>(entries: &[Entry], reads: &'a [ReadItem]) -> Option<&'a ReadItem>
+    ensures { option_copied result ≡ moved entries.now reads.now }
+{
+    for read in reads {
+        if record_at(entries, read.table, &read.key).version != read.version {
+            return Some(read);
+        }
+    }
+    None
+}
+
+/// The reads as an entry keeps them: without their values.
+pub fn without_values(reads: Reads) -> Reads
+    ensures { result ≡ map without_value reads }
+{
+    let mut items = reads.into_vec();
+    for item in items.iter_mut() {
+        forget(item);
+    }
+    Reads::from_vec(items)
+}
+
+fn forget(read: &mut ReadItem)
+    ensures { read.new ≡ without_value read.old }
+{
+    read.value = None;
+}
