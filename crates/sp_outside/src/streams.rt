@@ -1,0 +1,70 @@
+ghost use Rattle.std.specs.Prelude.{◌≡◌, None};
+
+use crate::sink::{Sink, Wrote};
+use crate::source::{Source, Took};
+use std::io::{Read, Write};
+
+/// A source over a reader of the standard library. It tells nothing of the bytes.
+#[derive(Drop)]
+pub struct StdSource<R> {
+    reader: R,
+    faults: u64,
+}
+
+impl<R: Read> StdSource<R> {
+    /// A source that has not failed yet.
+    pub fn new(reader: R) -> StdSource<R>
+        ensures { result ≡ record { reader = reader; faults = 0 } }
+    {
+        StdSource { reader, faults: 0 }
+    }
+}
+
+impl<R: Read> Source for StdSource<R> {
+    ghost faults = { λ s. s.faults };
+
+    ghost left = { λ _. None };
+
+    fn take(&mut self, into: &mut [u8]) -> Took {
+        match self.reader.read(into) {
+            Ok(0) => Took::End,
+            Ok(n) => Took::Bytes(n),
+            Err(_) => {
+                self.faults = self.faults.saturating_add(1);
+                Took::Failed
+            }
+        }
+    }
+}
+
+/// A sink over a writer of the standard library. It tells nothing of the bytes.
+#[derive(Drop)]
+pub struct StdSink<W> {
+    writer: W,
+    faults: u64,
+}
+
+impl<W: Write> StdSink<W> {
+    /// A sink that has not failed yet.
+    pub fn new(writer: W) -> StdSink<W>
+        ensures { result ≡ record { writer = writer; faults = 0 } }
+    {
+        StdSink { writer, faults: 0 }
+    }
+}
+
+impl<W: Write> Sink for StdSink<W> {
+    ghost faults = { λ s. s.faults };
+
+    ghost held = { λ _. None };
+
+    fn put(&mut self, piece: &[u8]) -> Wrote {
+        match self.writer.write(piece) {
+            Ok(n) if n > 0 => Wrote::Bytes(n),
+            _ => {
+                self.faults = self.faults.saturating_add(1);
+                Wrote::Failed
+            }
+        }
+    }
+}
