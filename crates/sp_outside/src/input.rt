@@ -22,9 +22,11 @@ const PIECE: usize = 65_536;
 
 /// Reads to the end of a source, but no more than `most + 1` bytes.
 pub fn read_input<S: Source>(alloc: Global, source: &mut S, most: usize) -> Input
-    ensures told { IfSome (S.left source.old) (λ input. Reads result most input (S.left source.new)) }
+    ensures told { IfSome (S.left source.old) (λ input.
+        Reads result most input (S.left source.new)) }
     ensures within { IsWithin result most }
-    ensures failed { result ≡ Input.Failed → FaultCounted (S.faults source.old) (S.faults source.new) }
+    ensures failed { result ≡ Input.Failed →
+        FaultCounted (S.faults source.old) (S.faults source.new) }
     ensures never_falls { S.faults source.old ≤ S.faults source.new }
 {
     match Vec::from_elem(alloc, 0u8, PIECE) {
@@ -42,9 +44,11 @@ fn read_by_pieces<S: Source>(
 ) -> Input
     requires some { 0 < length piece.old }
     requires none { bytes.items ≡ [] }
-    ensures told { IfSome (S.left source.old) (λ input. Reads result most input (S.left source.new)) }
+    ensures told { IfSome (S.left source.old) (λ input.
+        Reads result most input (S.left source.new)) }
     ensures within { IsWithin result most }
-    ensures failed { result ≡ Input.Failed → FaultCounted (S.faults source.old) (S.faults source.new) }
+    ensures failed { result ≡ Input.Failed →
+        FaultCounted (S.faults source.old) (S.faults source.new) }
     ensures never_falls { S.faults source.old ≤ S.faults source.new }
 {
     'pieces: loop {

@@ -2,10 +2,10 @@
 //! faults that were met. Forms in memory tell their content; real streams do not.
 #![tactic(auto)]
 
-mod counts;
 mod input;
 mod mem_sink;
 mod mem_source;
+mod memory;
 mod output;
 mod sink;
 mod source;

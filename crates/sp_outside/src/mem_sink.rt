@@ -1,8 +1,9 @@
-ghost use Rattle.std.specs.Prelude.{◌≡◌, ◌↔◌, ◌⊎◌, ◌<◌, ◌≤◌, ◌-◌, [], ◌++◌, length, take, min, vec_len, vec_capacity, Some, IfOk, Contains};
+ghost use Rattle.std.specs.Prelude.{◌≡◌, ◌↔◌, ◌⊎◌, ◌<◌, ◌≤◌, ◌-◌, [], length, vec_len, vec_capacity};
+ghost use Rattle.std.specs.Prelude.{Some, IfOk, Contains};
 ghost use Rattle.sp_outside.specs.Faults.{FaultCounted, one_call_more};
 ghost use Rattle.sp_outside.specs.Putting.{TakesWithin, Puts, TakesAllThatFits, faults_after_put};
 
-use crate::counts::is_to_fail;
+use crate::memory::{count_call, keep_what_fits};
 use crate::sink::{Sink, Wrote};
 use sp_base::Memory;
 use std::alloc::Global;
@@ -54,15 +55,17 @@ impl Sink for MemSink {
         ensures failed { result ≡ Wrote.Failed → FaultCounted self.old.faults self.new.faults }
         ensures never_falls { self.old.faults ≤ self.new.faults }
 
-        // Which calls fail, and how many bytes the others take.
-        ensures fails { (result ≡ Wrote.Failed) ↔ (Contains self.old.fail.items self.old.calls ⊎ (self.old.room ≤ vec_len self.old.held)) }
-        ensures all_that_fit { TakesAllThatFits result (length piece.now) (self.old.room - vec_len self.old.held) }
+        // Which calls fail, how many bytes the others take, and what is counted.
+        ensures fails { (result ≡ Wrote.Failed) ↔ (Contains self.old.fail.items self.old.calls
+            ⊎ (self.old.room ≤ vec_len self.old.held)) }
+        ensures all_that_fit { TakesAllThatFits result (length piece.now)
+            (self.old.room - vec_len self.old.held) }
         ensures calls { self.new.calls ≡ one_call_more self.old.calls }
         ensures faults { self.new.faults ≡ faults_after_put result self.old.faults }
         ensures room { self.new.room ≡ self.old.room }
         ensures fail { self.new.fail ≡ self.old.fail }
     {
-        if is_to_fail(self.fail.as_slice(), &mut self.calls, &mut self.faults) {
+        if count_call(self.fail.as_slice(), &mut self.calls, &mut self.faults) {
             return Wrote::Failed;
         }
         if self.held.len() as u64 >= self.room {
@@ -71,17 +74,4 @@ impl Sink for MemSink {
         }
         Wrote::Bytes(keep_what_fits(&mut self.held, self.room as usize, piece))
     }
-}
-
-/// Adds what fits of a piece, into memory that is there. Returns how many bytes that is.
-fn keep_what_fits(held: &mut Vec<u8>, room: usize, piece: &[u8]) -> usize
-    requires free { vec_len held.old < room }
-    requires has_room { room ≤ vec_capacity held.old }
-    ensures all_that_fit { result ≡ min (length piece.now) (room - vec_len held.old) }
-    ensures held { held.new.items ≡ held.old.items ++ take result piece.now }
-    ensures has_room { room ≤ vec_capacity held.new }
-{
-    let n = piece.len().min(room - held.len());
-    let _fits = held.extend_from_slice(&piece[..n]);
-    n
 }

@@ -1,8 +1,8 @@
-ghost use Rattle.std.specs.Prelude.{◌≡◌, ◌≢◌, ◌↔◌, ◌<◌, ◌≤◌, ◌+◌, ℕ, List, length, drop, Option, Some, IfSome, Contains};
+ghost use Rattle.std.specs.Prelude.{◌≡◌, ◌↔◌, ◌<◌, ◌≤◌, length, drop, Some, Contains};
 ghost use Rattle.sp_outside.specs.Faults.{FaultCounted, one_call_more};
 ghost use Rattle.sp_outside.specs.Taking.{ComesWithin, Takes, GivesAllThatFits, faults_after_take};
 
-use crate::counts::is_to_fail;
+use crate::memory::{count_call, give_what_fits};
 use crate::source::{Source, Took};
 
 /// A source in memory, some calls of which can be made to fail.
@@ -27,40 +27,23 @@ impl Source for MemSource {
     fn take(&mut self, into: &mut [u8]) -> Took
         requires { 0 < length into.old }
         ensures within { ComesWithin result (length into.new) }
-        ensures told { Takes result (drop self.old.at self.old.bytes.items) into.new (Some (drop self.new.at self.new.bytes.items)) }
+        ensures told { Takes result (drop self.old.at self.old.bytes.items) into.new
+            (Some (drop self.new.at self.new.bytes.items)) }
         ensures failed { result ≡ Took.Failed → FaultCounted self.old.faults self.new.faults }
         ensures never_falls { self.old.faults ≤ self.new.faults }
 
-        // Which calls fail, and how many bytes the others give.
+        // Which calls fail, how many bytes the others give, and what is counted.
         ensures fails { (result ≡ Took.Failed) ↔ Contains self.old.fail.items self.old.calls }
-        ensures all_that_fit { GivesAllThatFits result (drop self.old.at self.old.bytes.items) (length into.new) }
+        ensures all_that_fit { GivesAllThatFits result (drop self.old.at self.old.bytes.items)
+            (length into.new) }
         ensures calls { self.new.calls ≡ one_call_more self.old.calls }
         ensures faults { self.new.faults ≡ faults_after_take result self.old.faults }
-        ensures kept { self.new ≡ record self.old { at = self.new.at; calls = self.new.calls; faults = self.new.faults } }
+        ensures kept { self.new ≡ record self.old { at = self.new.at; calls = self.new.calls;
+            faults = self.new.faults } }
     {
-        if is_to_fail(self.fail.as_slice(), &mut self.calls, &mut self.faults) {
+        if count_call(self.fail.as_slice(), &mut self.calls, &mut self.faults) {
             return Took::Failed;
         }
-        give_from(self.bytes.as_slice(), &mut self.at, into)
+        give_what_fits(self.bytes.as_slice(), &mut self.at, into)
     }
-}
-
-/// Gives what fits of the bytes from `at` on.
-pub(crate) fn give_from(bytes: &[u8], at: &mut usize, into: &mut [u8]) -> Took
-    requires { 0 < length into.old }
-    ensures within { ComesWithin result (length into.new) }
-    ensures told { Takes result (drop at.old bytes.now) into.new (Some (drop at.new bytes.now)) }
-    ensures all_that_fit { GivesAllThatFits result (drop at.old bytes.now) (length into.new) }
-    ensures never { result ≢ Took.Failed }
-{
-    let Some(rest) = bytes.get(*at..) else {
-        return Took::End;
-    };
-    if rest.is_empty() {
-        return Took::End;
-    }
-    let n = rest.len().min(into.len());
-    into[..n].copy_from_slice(&rest[..n]);
-    *at += n;
-    Took::Bytes(n)
 }

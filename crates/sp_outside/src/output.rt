@@ -15,10 +15,13 @@ pub enum Written {
 
 /// Writes a text, in as many calls as the sink needs. An empty text needs none.
 pub fn write_output<K: Sink>(sink: &mut K, text: &[u8]) -> Written
-    ensures told { IfSome (K.held sink.old) (λ held. Writes result held text.now (K.held sink.new)) }
-    ensures failed { result ≡ Written.Failed → FaultCounted (K.faults sink.old) (K.faults sink.new) }
+    ensures told { IfSome (K.held sink.old) (λ held.
+        Writes result held text.now (K.held sink.new)) }
+    ensures failed { result ≡ Written.Failed →
+        FaultCounted (K.faults sink.old) (K.faults sink.new) }
     ensures never_falls { K.faults sink.old ≤ K.faults sink.new }
-    ensures empty { length text.now ≡ 0 → (result ≡ Written.Whole) × (sink.new ≡ sink.old) }
+    ensures empty { length text.now ≡ 0 →
+        (result ≡ Written.Whole) × (sink.new ≡ sink.old) }
 {
     if text.is_empty() {
         return Written::Whole;

@@ -23,7 +23,9 @@ pub trait Sink {
     fn put(&mut self, piece: &[u8]) -> Wrote
         requires { 0 < length piece.now }
         ensures within { TakesWithin result (length piece.now) }
-        ensures told { IfSome (held self.old) (λ bytes. Puts result bytes piece.now (held self.new)) }
-        ensures failed { result ≡ Wrote.Failed → FaultCounted (faults self.old) (faults self.new) }
+        ensures told { IfSome (held self.old) (λ bytes.
+            Puts result bytes piece.now (held self.new)) }
+        ensures failed { result ≡ Wrote.Failed →
+            FaultCounted (faults self.old) (faults self.new) }
         ensures never_falls { faults self.old ≤ faults self.new };
 }

@@ -25,7 +25,9 @@ pub trait Source {
     fn take(&mut self, into: &mut [u8]) -> Took
         requires { 0 < length into.old }
         ensures within { ComesWithin result (length into.new) }
-        ensures told { IfSome (left self.old) (λ bytes. Takes result bytes into.new (left self.new)) }
-        ensures failed { result ≡ Took.Failed → FaultCounted (faults self.old) (faults self.new) }
+        ensures told { IfSome (left self.old) (λ bytes.
+            Takes result bytes into.new (left self.new)) }
+        ensures failed { result ≡ Took.Failed →
+            FaultCounted (faults self.old) (faults self.new) }
         ensures never_falls { faults self.old ≤ faults self.new };
 }

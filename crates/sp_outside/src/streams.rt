@@ -1,4 +1,7 @@
-ghost use Rattle.std.specs.Prelude.{◌≡◌, None};
+ghost use Rattle.std.specs.Prelude.{◌≡◌, ◌<◌, ◌≤◌, length, None};
+ghost use Rattle.sp_outside.specs.Faults.{FaultCounted};
+ghost use Rattle.sp_outside.specs.Putting.{TakesWithin, faults_after_put};
+ghost use Rattle.sp_outside.specs.Taking.{ComesWithin, faults_after_take};
 
 use crate::sink::{Sink, Wrote};
 use crate::source::{Source, Took};
@@ -7,8 +10,9 @@ use std::io::{Read, Write};
 /// A source over a reader of the standard library. It tells nothing of the bytes.
 #[derive(Drop)]
 pub struct StdSource<R> {
-    reader: R,
-    faults: u64,
+    pub reader: R,
+    /// How many reads were an error, up to the last value.
+    pub faults: u64,
 }
 
 impl<R: Read> StdSource<R> {
@@ -25,7 +29,13 @@ impl<R: Read> Source for StdSource<R> {
 
     ghost left = { λ _. None };
 
-    fn take(&mut self, into: &mut [u8]) -> Took {
+    fn take(&mut self, into: &mut [u8]) -> Took
+        requires { 0 < length into.old }
+        ensures within { ComesWithin result (length into.new) }
+        ensures failed { result ≡ Took.Failed → FaultCounted self.old.faults self.new.faults }
+        ensures never_falls { self.old.faults ≤ self.new.faults }
+        ensures faults { self.new.faults ≡ faults_after_take result self.old.faults }
+    {
         match self.reader.read(into) {
             Ok(0) => Took::End,
             Ok(n) => Took::Bytes(n),
@@ -40,8 +50,9 @@ impl<R: Read> Source for StdSource<R> {
 /// A sink over a writer of the standard library. It tells nothing of the bytes.
 #[derive(Drop)]
 pub struct StdSink<W> {
-    writer: W,
-    faults: u64,
+    pub writer: W,
+    /// How many writes were an error or took nothing, up to the last value.
+    pub faults: u64,
 }
 
 impl<W: Write> StdSink<W> {
@@ -58,7 +69,13 @@ impl<W: Write> Sink for StdSink<W> {
 
     ghost held = { λ _. None };
 
-    fn put(&mut self, piece: &[u8]) -> Wrote {
+    fn put(&mut self, piece: &[u8]) -> Wrote
+        requires { 0 < length piece.now }
+        ensures within { TakesWithin result (length piece.now) }
+        ensures failed { result ≡ Wrote.Failed → FaultCounted self.old.faults self.new.faults }
+        ensures never_falls { self.old.faults ≤ self.new.faults }
+        ensures faults { self.new.faults ≡ faults_after_put result self.old.faults }
+    {
         match self.writer.write(piece) {
             Ok(n) if n > 0 => Wrote::Bytes(n),
             _ => {

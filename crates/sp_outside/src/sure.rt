@@ -1,8 +1,7 @@
-ghost use Rattle.std.specs.Prelude.{◌≡◌, ◌≢◌, ◌<◌, ◌≤◌, length, drop, None, Some, IfSome};
+ghost use Rattle.std.specs.Prelude.{◌≡◌, ◌≢◌, ◌<◌, length, drop, None, Some};
 ghost use Rattle.sp_outside.specs.Taking.{ComesWithin, Takes, GivesAllThatFits};
-ghost use Rattle.sp_outside.specs.Putting.{TakesWithin};
 
-use crate::mem_source::give_from;
+use crate::memory::give_what_fits;
 use crate::sink::{Sink, Wrote};
 use crate::source::{Source, Took};
 
@@ -22,12 +21,14 @@ impl Source for SureSource {
     fn take(&mut self, into: &mut [u8]) -> Took
         requires { 0 < length into.old }
         ensures within { ComesWithin result (length into.new) }
-        ensures told { Takes result (drop self.old.at self.old.bytes.items) into.new (Some (drop self.new.at self.new.bytes.items)) }
+        ensures told { Takes result (drop self.old.at self.old.bytes.items) into.new
+            (Some (drop self.new.at self.new.bytes.items)) }
         ensures never { result ≢ Took.Failed }
-        ensures all_that_fit { GivesAllThatFits result (drop self.old.at self.old.bytes.items) (length into.new) }
+        ensures all_that_fit { GivesAllThatFits result (drop self.old.at self.old.bytes.items)
+            (length into.new) }
         ensures kept { self.new ≡ record self.old { at = self.new.at } }
     {
-        give_from(self.bytes.as_slice(), &mut self.at, into)
+        give_what_fits(self.bytes.as_slice(), &mut self.at, into)
     }
 }
 
