@@ -1,3 +1,2 @@
 pub mod ReadingSteps
-pub mod Told
 pub mod WritingSteps

@@ -1,5 +1,5 @@
 -- Steps of reading an input, piece by piece.
-use Rattle.std.proofs.Common.{◌≡◌, ℕ, ◌+◌, ◌<◌, ◌≤◌, List, [], ◌++◌, length, take, drop, Option, Some, None, IfSome, refl, sym, ◌∙◌, ap, subst, append_assoc, append-nil, arith, length-append}
+use Rattle.std.proofs.Common.{◌≡◌, ℕ, ◌+◌, ◌≤◌, List, [], ◌++◌, length, take, drop, Option, Some, None, IfSome, refl, sym, ◌∙◌, ap, subst, append_assoc, append-nil, arith, length-append}
 use Rattle.std.proofs.Math.Seq.{drop-append_seam}
 use Rattle.std.proofs.lemmas.List.{take-append-drop}
 use Rattle.sp_outside.specs.Taking.{GivesFirst}
@@ -28,11 +28,11 @@ read_more (Some input) b c bytes into n before more =
     let P : Option (List ℕ) → Type 0 = λ o. IfSome o (λ left. GivesFirst n left into c) in
     let here : GivesFirst n before.rest into c = subst P before.left more in
     let joined : before.rest ≡ take n into ++ drop n before.rest =
-      sym (take-append-drop n before.rest) ∙ ap (λ xs. xs ++ drop n before.rest) (sym here.front) in
+    sym (take-append-drop n before.rest) ∙ ap (λ xs. xs ++ drop n before.rest) (sym here.front) in
     record {
       rest = drop n before.rest;
       parts = before.parts ∙ ap (λ xs. bytes ++ xs) joined ∙ sym (append_assoc bytes (take n into) (drop n before.rest));
-      left = here.rest
+      left = here.rest;
     }
 
 -- behind the front
@@ -48,7 +48,7 @@ read_whole (Some input) b c bytes before end =
     let here : (before.rest ≡ []) × (c ≡ Some []) = subst P before.left end in
     record {
       whole = sym (before.parts ∙ ap (λ xs. bytes ++ xs) here.0 ∙ append-nil bytes);
-      nothing = here.1
+      nothing = here.1;
     }
 
 -- no more than so many bytes were taken
@@ -58,7 +58,7 @@ read_up_to None b bytes most few before = tt
 read_up_to (Some input) b bytes most few before = record {
   taken = length bytes;
   few = few;
-  rest = before.left ∙ ap Some (sym (ap (drop (length bytes)) before.parts ∙ drop_front bytes before.rest (length bytes) refl))
+  rest = before.left ∙ ap Some (sym (ap (drop (length bytes)) before.parts ∙ drop_front bytes before.rest (length bytes) refl));
 }
 
 -- a call failed
@@ -76,5 +76,5 @@ pub read_longer : (a c : Option (List ℕ)) (bytes : List ℕ) (most : ℕ) → 
 read_longer None c bytes most size before = tt
 read_longer (Some input) c bytes most size before = record {
   more = let sizes : length input ≡ length bytes + length before.rest = ap length before.parts ∙ length-append bytes before.rest in omega arith;
-  rest = before.left ∙ ap Some (sym (ap (drop (most + 1)) before.parts ∙ drop_front bytes before.rest (most + 1) (sym size)))
+  rest = before.left ∙ ap Some (sym (ap (drop (most + 1)) before.parts ∙ drop_front bytes before.rest (most + 1) (sym size)));
 }

@@ -1,5 +1,5 @@
 -- Steps of writing a text, piece by piece.
-use Rattle.std.proofs.Common.{◌≡◌, ℕ, ◌+◌, ◌<◌, ◌≤◌, List, [], ◌++◌, length, take, drop, Option, Some, None, IfSome, refl, sym, ◌∙◌, ap, subst, append_assoc, append-nil, arith}
+use Rattle.std.proofs.Common.{◌≡◌, ℕ, ◌+◌, ◌<◌, ◌≤◌, List, ◌++◌, length, take, drop, Option, Some, None, IfSome, sym, ◌∙◌, ap, subst, append_assoc, append-nil}
 use Rattle.std.proofs.Math.Seq.{take-add}
 use Rattle.std.proofs.lemmas.List.{take_all}
 use Rattle.sp_outside.specs.Writing.{HoldsPrefix}
@@ -22,7 +22,7 @@ written_more (Some held) b c text piece done n e before more =
     let P : Option (List ℕ) → Type 0 = λ o. IfSome o (λ xs. c ≡ Some (xs ++ take n piece)) in
     let here : c ≡ Some ((held ++ take done text) ++ take n piece) = subst P before more in
     let joined : take done text ++ take n piece ≡ take (done + n) text =
-      ap (λ xs. take done text ++ take n xs) e ∙ sym (take-add done n text) in
+    ap (λ xs. take done text ++ take n xs) e ∙ sym (take-add done n text) in
     here ∙ ap Some (append_assoc held (take done text) (take n piece) ∙ ap (λ xs. held ++ xs) joined)
 
 -- all are taken

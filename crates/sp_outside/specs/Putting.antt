@@ -1,5 +1,5 @@
 -- What one call of a sink takes, by its answer.
-use Rattle.std.specs.Prelude.{◌≡◌, ℕ, ◌-◌, ◌≤◌, min, Option, Some, List, ◌++◌, length, take}
+use Rattle.std.specs.Prelude.{◌≡◌, ℕ, ◌≤◌, min, Option, Some, List, ◌++◌, take}
 use Rattle.sp_outside.specs.declared.sink.Wrote.{Wrote}
 use Rattle.sp_outside.specs.declared.sink.Wrote.TheVariants.{Bytes, Failed}
 use Rattle.sp_outside.specs.Faults.{one_fault_more}

@@ -20,3 +20,6 @@ pub use sink::{Sink, Wrote};
 pub use source::{Source, Took};
 pub use streams::{StdSink, StdSource};
 pub use sure::{SureSink, SureSource};
+
+#[cfg(test)]
+mod tests;

@@ -38,8 +38,11 @@ impl Source for MemSource {
             (length into.new) }
         ensures calls { self.new.calls ≡ one_call_more self.old.calls }
         ensures faults { self.new.faults ≡ faults_after_take result self.old.faults }
-        ensures kept { self.new ≡ record self.old { at = self.new.at; calls = self.new.calls;
-            faults = self.new.faults } }
+        ensures kept { self.new ≡ record self.old {
+          at = self.new.at;
+          calls = self.new.calls;
+          faults = self.new.faults;
+        } }
     {
         if count_call(self.fail.as_slice(), &mut self.calls, &mut self.faults) {
             return Took::Failed;

@@ -6,7 +6,7 @@ abbrev pub invariant-loop-done : goal.invariant-loop-done
 invariant-loop-done g l = record {
   within : l.done ≤ length l.text;
   never_falls : g.K.Sink.faults l.initial.sink ≤ g.K.Sink.faults l.sink;
-  written : HasWritten (g.K.Sink.held l.initial.sink) (g.K.Sink.held l.sink) l.text l.done
+  written : HasWritten (g.K.Sink.held l.initial.sink) (g.K.Sink.held l.sink) l.text l.done;
 }
 
 abbrev pub decreases-loop-done : goal.decreases-loop-done
