@@ -1,6 +1,7 @@
 ghost use Rattle.std.specs.Prelude.{◌≡◌, ◌<◌, ◌≤◌, length, None};
 ghost use Rattle.sp_outside.specs.Faults.{FaultCounted};
 ghost use Rattle.sp_outside.specs.Putting.{TakesWithin, faults_after_put};
+ghost use Rattle.sp_outside.specs.Streams.{ReadsOn, WritesOn};
 ghost use Rattle.sp_outside.specs.Taking.{ComesWithin, faults_after_take};
 
 use crate::sink::{Sink, Wrote};
@@ -35,6 +36,8 @@ impl<R: Read> Source for StdSource<R> {
         ensures failed { result ≡ Took.Failed → FaultCounted self.old.faults self.new.faults }
         ensures never_falls { self.old.faults ≤ self.new.faults }
         ensures faults { self.new.faults ≡ faults_after_take result self.old.faults }
+        ensures bytes { ReadsOn result (R.remaining self.old.reader) (R.remaining self.new.reader)
+            into.new }
     {
         match self.reader.read(into) {
             Ok(0) => Took::End,
@@ -75,10 +78,12 @@ impl<W: Write> Sink for StdSink<W> {
         ensures failed { result ≡ Wrote.Failed → FaultCounted self.old.faults self.new.faults }
         ensures never_falls { self.old.faults ≤ self.new.faults }
         ensures faults { self.new.faults ≡ faults_after_put result self.old.faults }
+        ensures bytes { WritesOn result (W.contents self.old.writer) (W.contents self.new.writer)
+            piece.now }
     {
         match self.writer.write(piece) {
             Ok(n) if n > 0 => Wrote::Bytes(n),
-            _ => {
+            Ok(_) | Err(_) => {
                 self.faults = self.faults.saturating_add(1);
                 Wrote::Failed
             }
