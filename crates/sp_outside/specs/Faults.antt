@@ -1,9 +1,9 @@
 -- Counts of faults and of calls, which stop at the last value of their type.
-use Rattle.std.specs.Prelude.{◌≡◌, ◌⊎◌, ℕ, ◌+◌, ◌-◌, ◌^◌, ◌<◌, min}
+use Rattle.std.specs.Prelude.{◌⊎◌, ℕ, ◌+◌, ◌-◌, ◌^◌, ◌<◌, ◌≤◌, min}
 
--- a fault was counted: the count rose, or it stands at its last value
+-- a fault was counted: the count rose, or it stands at its last value; later calls keep this
 abbrev pub FaultCounted : ℕ → ℕ → Type 0
-FaultCounted before after = (before < after) ⊎ (after ≡ 2 ^ 64 - 1)
+FaultCounted before after = (before < after) ⊎ (2 ^ 64 - 1 ≤ after)
 
 -- one fault more
 abbrev pub one_fault_more : ℕ → ℕ

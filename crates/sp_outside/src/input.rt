@@ -14,6 +14,7 @@ pub enum Input {
     Longer,
     /// The source failed.
     Failed,
+    /// There was no memory for the bytes.
     Memory,
 }
 
@@ -35,7 +36,7 @@ pub fn read_input<S: Source>(alloc: Global, source: &mut S, most: usize) -> Inpu
     }
 }
 
-/// Reads on behind no bytes, by pieces of at most this length.
+/// Reads to the end of a source by way of `piece`, into a vector that is still empty.
 fn read_by_pieces<S: Source>(
     mut bytes: Vec<u8>,
     source: &mut S,

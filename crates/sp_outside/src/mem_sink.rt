@@ -62,8 +62,8 @@ impl Sink for MemSink {
             (self.old.room - vec_len self.old.held) }
         ensures calls { self.new.calls ≡ one_call_more self.old.calls }
         ensures faults { self.new.faults ≡ faults_after_put result self.old.faults }
-        ensures room { self.new.room ≡ self.old.room }
-        ensures fail { self.new.fail ≡ self.old.fail }
+        ensures same_room { self.new.room ≡ self.old.room }
+        ensures same_fail { self.new.fail ≡ self.old.fail }
     {
         if count_call(self.fail.as_slice(), &mut self.calls, &mut self.faults) {
             return Wrote::Failed;
