@@ -1,0 +1,6 @@
+pub mod Faults
+pub mod Putting
+pub mod Reading
+pub mod Streams
+pub mod Taking
+pub mod Writing

@@ -1,0 +1,56 @@
+//! What the forms in memory share.
+ghost use Rattle.std.specs.Prelude.{◌≡◌, ◌≢◌, ◌↔◌, ◌<◌, ◌≤◌, ◌-◌, ◌++◌, length, take, drop, min};
+ghost use Rattle.std.specs.Prelude.{vec_len, vec_capacity, IsTrue, Contains, Some, if◌then◌else◌};
+ghost use Rattle.sp_outside.specs.Faults.{one_call_more, one_fault_more};
+ghost use Rattle.sp_outside.specs.Taking.{ComesWithin, Takes, GivesAllThatFits};
+
+use crate::source::Took;
+
+/// Counts a call, and a fault where the list names the call's number. Returns whether it does.
+pub(crate) fn count_call(fail: &[u32], calls: &mut u32, faults: &mut u64) -> bool
+    ensures named { IsTrue result ↔ Contains fail.now calls.old }
+    ensures calls { calls.new ≡ one_call_more calls.old }
+    ensures faults { faults.new ≡ (if result then one_fault_more faults.old else faults.old) }
+    ensures never_falls { faults.old ≤ faults.new }
+{
+    let is_named = fail.contains(calls);
+    *calls = calls.saturating_add(1);
+    if is_named {
+        *faults = faults.saturating_add(1);
+    }
+    is_named
+}
+
+/// Gives what fits of the bytes from `at` on.
+pub(crate) fn give_what_fits(bytes: &[u8], at: &mut usize, into: &mut [u8]) -> Took
+    requires { 0 < length into.old }
+    ensures within { ComesWithin result (length into.new) }
+    ensures told { Takes result (drop at.old bytes.now) into.new (Some (drop at.new bytes.now)) }
+    ensures all_that_fit { GivesAllThatFits result (drop at.old bytes.now) (length into.new) }
+    ensures never { result ≢ Took.Failed }
+{
+    let Some(rest) = bytes.get(*at..) else {
+        return Took::End;
+    };
+    if rest.is_empty() {
+        return Took::End;
+    }
+    let n = rest.len().min(into.len());
+    into[..n].copy_from_slice(&rest[..n]);
+    *at += n;
+    Took::Bytes(n)
+}
+
+/// Keeps what fits of a piece into the room that is there in all. Returns how many bytes that is.
+pub(crate) fn keep_what_fits(held: &mut Vec<u8>, room: usize, piece: &[u8]) -> usize
+    requires free { vec_len held.old < room }
+    requires has_room { room ≤ vec_capacity held.old }
+    ensures all_that_fit { result ≡ min (length piece.now) (room - vec_len held.old) }
+    ensures held { held.new.items ≡ held.old.items ++ take result piece.now }
+    ensures has_room { room ≤ vec_capacity held.new }
+{
+    let n = piece.len().min(room - held.len());
+    // The memory is there, so this cannot fail.
+    let _ = held.extend_from_slice(&piece[..n]);
+    n
+}
