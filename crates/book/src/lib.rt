@@ -21,6 +21,7 @@ pub use entry::{Entry, Home};
 pub use ext::Ext;
 pub use finished::Finished;
 pub use grants::Grants;
+pub use scan::text_count;
 pub use size::entry_size;
 
 /// The most entries that a journal may be made for.

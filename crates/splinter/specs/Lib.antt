@@ -1,2 +1,4 @@
 pub mod Fields
 pub mod Script
+pub mod Play
+pub mod Lines

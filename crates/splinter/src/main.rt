@@ -1,7 +1,11 @@
 //! `splinter run` plays the script on its input, and writes the answers and the journal.
 #![tactic(auto)]
 
+mod line;
+mod live;
+mod printing;
 mod script;
+mod text;
 
 use std::io;
 
