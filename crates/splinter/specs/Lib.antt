@@ -2,3 +2,4 @@ pub mod Fields
 pub mod Script
 pub mod Play
 pub mod Lines
+pub mod Steps

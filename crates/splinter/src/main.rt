@@ -1,6 +1,7 @@
 //! `splinter run` plays the script on its input, and writes the answers and the journal.
 #![tactic(auto)]
 
+mod evaluator;
 mod line;
 mod live;
 mod printing;
