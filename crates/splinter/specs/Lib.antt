@@ -3,3 +3,4 @@ pub mod Script
 pub mod Play
 pub mod Lines
 pub mod Steps
+pub mod Stepping

@@ -1,19 +1,16 @@
 -- What a script does: its events in order, and then turns until its call has ended.
-use Rattle.std.specs.Prelude.{◌≡◌, ◌≤◌, ◌<◌, ℕ, ◌+◌, List, [], ◌∷◌, ◌++◌, length, map, min, nat_le, nat_lt, slice_get, take, Option, Some, None, if◌then◌else◌}
-use Rattle.std.specs.List.{AllByRecursion}
+use Rattle.std.specs.Prelude.{◌≡◌, ◌≤◌, ◌<◌, ℕ, ◌+◌, List, [], ◌∷◌, ◌++◌, length, map, min, nat_lt, if◌then◌else◌}
 use Rattle.sp_base.specs.declared.calls.Call.{Call}
 use Rattle.sp_base.specs.declared.outcomes.Outcome.{Outcome}
 use Rattle.sp_base.specs.declared.outcomes.Outcome.TheVariants as outcome
 use Rattle.sp_base.specs.declared.reads.ReadItem.{ReadItem}
 use Rattle.sp_base.specs.declared.writes.Write.{Write}
-use Rattle.sp_base.specs.Limits.{IsArguments}
 use Rattle.ext_mean.specs.declared.tree.Program.{Program}
 use Rattle.ext_mean.specs.declared.run.Run.{Run}
 use Rattle.ext_mean.specs.declared.run.Run.TheVariants as run
 use Rattle.ext_mean.specs.Meaning.{mean}
-use Rattle.ext_mean.specs.Outcomes.{wanted_by}
 use Rattle.ext_mean.specs.Text.{text_of}
-use Rattle.ext_mean.specs.Views.{part, place_of}
+use Rattle.ext_mean.specs.Views.{part}
 use Rattle.book.specs.declared.answers.Commit.{Commit}
 use Rattle.book.specs.declared.answers.Commit.TheVariants as commit
 use Rattle.book.specs.declared.answers.Install.{Install}
@@ -24,8 +21,7 @@ use Rattle.book.specs.declared.entry.Entry.{Entry}
 use Rattle.book.specs.declared.entry.Entry.TheVariants as entry
 use Rattle.book.specs.Folds.{texts_of}
 use Rattle.book.specs.GrantsList.{GrantsList, RightsList, rights_of}
-use Rattle.book.specs.Legal.{Names}
-use Rattle.book.specs.Verdict.{BookValue, IsHeld, item_at, entry_of, verdict, after_commit, put_answer, after_put, install_answer, after_install}
+use Rattle.book.specs.Verdict.{BookValue, item_at, entry_of, verdict, after_commit, put_answer, after_put, install_answer, after_install}
 use Rattle.splinter.specs.declared.line.Answer.{Answer}
 use Rattle.splinter.specs.declared.line.Line.{Line}
 use Rattle.splinter.specs.declared.line.Line.TheVariants as line
@@ -82,18 +78,20 @@ turned book live run.Spent =
 turned book live (run.Done reply writes used) = ended book live (outcome.Done reply) writes
 turned book live (run.Trapped trap used) = ended book live (outcome.Trapped trap) []
 
--- the meaning with the units spent and one quantum more, on the records read, decides
-abbrev pub turn : Program → RightsList → BookValue → Live → Turned
-turn program rights book live =
-    turned book live
-    (mean program live.call.args (min live.call.budget (live.spent + quantum)) (part live.reads rights))
+-- the meaning with the units spent and one quantum more, on the records read
+abbrev pub meaning_of_turn : Program → RightsList → Live → Run
+meaning_of_turn program rights live =
+    mean program live.call.args (min live.call.budget (live.spent + quantum)) (part live.reads rights)
+
+abbrev pub turn_of : Program → RightsList → BookValue → Live → Turned
+turn_of program rights book live = turned book live (meaning_of_turn program rights live)
 
 -- the lines and the book of turns until the call has ended
 pub data Drains (program : Program) (rights : RightsList) : BookValue → Live → List Line → BookValue → Type 0 where
   last_turn : (book : BookValue) (live : Live) (said : Line) (after : BookValue)
-      → turn program rights book live ≡ Ended said after → Drains program rights book live (said ∷ []) after
+      → turn_of program rights book live ≡ Ended said after → Drains program rights book live (said ∷ []) after
   more_turns : (book : BookValue) (live : Live) (said : Line) (next : Live) (lines : List Line) (after : BookValue)
-      → turn program rights book live ≡ GoesOn said next → Drains program rights book next lines after
+      → turn_of program rights book live ≡ GoesOn said next → Drains program rights book next lines after
       → Drains program rights book live (said ∷ lines) after
 
 -- the grants of a script: its one tenant has its one table

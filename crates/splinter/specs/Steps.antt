@@ -1,6 +1,6 @@
 -- The last part of the meaning of the one form, for the evaluator's own functions, and what every
 -- live call keeps.
-use Rattle.std.specs.Prelude.{◌≡◌, ◌≤◌, ◌<◌, ℕ, ◌+◌, List, [], length, Option, Some, None, nat_le, nat_lt, slice_get, take, if◌then◌else◌}
+use Rattle.std.specs.Prelude.{◌≡◌, ◌≤◌, ℕ, List, [], length, Option, Some, None, nat_lt, slice_get, take, if◌then◌else◌}
 use Rattle.std.specs.List.{AllByRecursion}
 use Rattle.sp_base.specs.declared.outcomes.Trap.TheVariants.{Size}
 use Rattle.sp_base.specs.declared.reads.ReadItem.{ReadItem}
@@ -40,3 +40,4 @@ pub record IsLive (program : Program) (book : BookValue) (live : Live) : Type 0 
       → wanted_by (mean program live.call.args live.call.budget
       (part (take k live.reads) (rights_of book.grants live.call.caller.tenant))) ≡ Some (place_of read)
   pub held : AllByRecursion (IsHeld book.journal) live.reads
+  pub few : length live.reads ≤ 6250

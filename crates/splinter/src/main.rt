@@ -7,6 +7,7 @@ mod live;
 mod printing;
 mod script;
 mod text;
+mod turn;
 
 use std::io;
 
