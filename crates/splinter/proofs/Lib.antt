@@ -1,2 +1,4 @@
 pub mod Texts
 pub mod Turns
+pub mod Drained
+pub mod Sources

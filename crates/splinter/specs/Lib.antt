@@ -4,3 +4,4 @@ pub mod Play
 pub mod Lines
 pub mod Steps
 pub mod Stepping
+pub mod Draining

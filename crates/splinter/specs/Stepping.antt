@@ -16,6 +16,7 @@ StepIs (step.Ended line) turned old new = turned ≡ Ended line new
 -- a call of this form that goes on has read nothing before, and has then read its one record
 pub record HasRead (program : Program) (book : BookValue) (live next : Live) : Type 0 where
   pub live_still : IsLive program book next
+  pub same_call : next.call ≡ live.call
   pub nothing_before : live.reads ≡ []
   pub one_now : length next.reads ≡ 1
 

@@ -4,6 +4,7 @@
 mod evaluator;
 mod line;
 mod live;
+mod play;
 mod printing;
 mod script;
 mod text;

@@ -123,7 +123,7 @@ fn add_line(text: &mut Text, line: &Line) -> Result<(), Memory>
             number,
             said,
         } => {
-            text.word(b"")?;
+            text.add(b" ")?;
             add_call(text, *caller, *number)?;
             add_said(text, said)
         }

@@ -2,7 +2,7 @@ ghost use Rattle.std.specs.Prelude.{◌≡◌, [], ◌∷◌, ◌++◌, ◌<◌,
 ghost use Rattle.std.specs.Fmt.{decimal};
 ghost use Rattle.splinter.specs.Fields.{hex_digit, hex_pair, byte_field};
 
-use sp_base::Memory;
+use sp_base::{Blob, Memory};
 use std::alloc::Global;
 use std::marker::Model;
 
@@ -35,6 +35,14 @@ impl Text {
         ensures { result.now ≡ self.now }
     {
         self.bytes.as_slice()
+    }
+
+    /// The text as a byte value, which needs no memory.
+    pub fn into_blob(self) -> Blob
+        ensures { result ≡ self }
+    {
+        let Text { bytes, .. } = self;
+        Blob::from_vec(bytes)
     }
 
     /// Adds these bytes.
