@@ -1,2 +1,4 @@
 pub mod Fields
 pub mod Script
+pub mod Reading
+pub mod Lines

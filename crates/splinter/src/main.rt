@@ -1,6 +1,8 @@
 //! `splinter run` plays the script on its input, and writes the answers and the journal.
 #![tactic(auto)]
 
+mod fields;
+mod lines;
 mod script;
 
 use std::io;
