@@ -1,5 +1,6 @@
 -- Reading the lines of a script.
 use Rattle.std.specs.Prelude.{ℕ, ◌-◌, ◌^◌, ◌==◌, Bool, true, false, List, [], ◌∷◌, ◌++◌, Option, Some, None, codes, if◌then◌else◌}
+use Rattle.std.specs.Option.{option_map_or}
 use Rattle.sp_base.specs.declared.calls.Call.{Call}
 use Rattle.sp_base.specs.declared.rights.Level.{Level}
 use Rattle.sp_base.specs.declared.rights.Level.TheVariants.{Read, Write}
@@ -18,10 +19,8 @@ u64_max = 2 ^ 64 - 1
 -- `read` or `write`
 unfoldable pub level_at : Reader Level
 level_at text =
-    elim (word_at (codes "read") text) [
-      | None ↦ after (codes "write") (λ rest. Some (Write, rest)) text
-      | Some rest ↦ Some (Read, rest)
-    ]
+    option_map_or (λ rest. Some (Read, rest)) (word_at (codes "read") text)
+    (after (codes "write") (λ rest. Some (Write, rest)) text)
 
 -- a space and a number of this range
 unfoldable pub next_number_at : ℕ → ℕ → Reader ℕ

@@ -1,5 +1,6 @@
 -- Reading fields from left to right.
 use Rattle.std.specs.Prelude.{◌≡◌, ℕ, zero, suc, ◌+◌, ◌-◌, ◌*◌, nat_lt, nat_le, ◌&&◌, List, [], ◌∷◌, length, take, drop, Option, Some, None, Result, Ok, Err, codes, if◌then◌else◌}
+use Rattle.std.specs.Option.{option_map_or}
 use Rattle.std.specs.Str.{bytes_eq}
 use Rattle.splinter.specs.declared.fields.ReadFault.{ReadFault}
 use Rattle.splinter.specs.declared.fields.ReadFault.TheVariants as faults
@@ -45,10 +46,7 @@ with_digit most value byte =
 abbrev pub digits_at : ℕ → ℕ → List ℕ → ℕ × List ℕ
 digits_at most value [] = (value, [])
 digits_at most value (byte ∷ text) =
-    elim (with_digit most value byte) [
-      | None ↦ (value, byte ∷ text)
-      | Some more ↦ digits_at most more text
-    ]
+    option_map_or (λ more. digits_at most more text) (with_digit most value byte) (value, byte ∷ text)
 
 -- after a first digit 0 no further digit is read
 abbrev pub more_digits_at : ℕ → ℕ → List ℕ → ℕ × List ℕ
@@ -71,13 +69,14 @@ same_at number text = number_at number number text >>= λ x. Some x.1
 
 -- ---- byte fields
 
+-- the value of a hexadecimal digit that is a lower-case letter
+abbrev pub letter_value : ℕ → Option ℕ
+letter_value byte = if nat_lt byte 97 then None else if nat_lt 102 byte then None else Some (byte - 87)
+
 -- the value of a lower-case hexadecimal digit
 unfoldable pub hex_value : ℕ → Option ℕ
 hex_value byte =
-    elim (digit_value byte) [
-      | None ↦ if nat_lt byte 97 then None else if nat_lt 102 byte then None else Some (byte - 87)
-      | Some digit ↦ Some digit
-    ]
+    option_map_or Some (digit_value byte) (letter_value byte)
 
 -- a byte, which two digits spell
 unfoldable pub pair_at : Reader ℕ
@@ -94,10 +93,7 @@ with_byte byte x = (byte ∷ x.0, x.1)
 abbrev pub pairs_at : ℕ → List ℕ → List ℕ × List ℕ
 pairs_at zero text = ([], text)
 pairs_at (suc most) text =
-    elim (pair_at text) [
-      | None ↦ ([], text)
-      | Some x ↦ with_byte x.0 (pairs_at most x.1)
-    ]
+    option_map_or (λ x. with_byte x.0 (pairs_at most x.1)) (pair_at text) ([], text)
 
 -- a byte field of at most this many bytes
 unfoldable pub bytes_at : ℕ → Reader (List ℕ)

@@ -1,7 +1,7 @@
 //! Reads the fields of a script from the front of a text.
 
-ghost use Rattle.std.specs.Prelude.{◌≡◌, ◌<◌, ◌≤◌, IfOk, IfSome, Some, None, MatchOption, nat_lt, ◌-◌, if◌then◌else◌};
-ghost use Rattle.splinter.specs.Reading.{Gives, word_at, digit_value, with_digit, digits_at, start_at, number_at, same_at, hex_value, pair_at, pairs_at, bytes_at, key_at};
+ghost use Rattle.std.specs.Prelude.{◌≡◌, ◌<◌, ◌≤◌, IfOk, IfSome, Some, None, MatchOption};
+ghost use Rattle.splinter.specs.Reading.{Gives, word_at, digit_value, with_digit, digits_at, start_at, number_at, same_at, letter_value, hex_value, pair_at, pairs_at, bytes_at, key_at};
 
 use sp_base::{Blob, Key, KeyFault};
 use std::alloc::{AllocError, AllocFailed, Global};
@@ -154,7 +154,7 @@ fn hex(byte: u8) -> Option<u8>
 /// The value of a hexadecimal digit that is a letter.
 fn letter(byte: u8) -> Option<u8>
     ensures small { IfSome result (λ digit. digit < 16) }
-    ensures value { result ≡ (if nat_lt byte 97 then None else if nat_lt 102 byte then None else Some (byte - 87)) }
+    ensures value { result ≡ letter_value byte }
 {
     match byte {
         b'a'..=b'f' => Some(byte - b'a' + 10),

@@ -3,6 +3,7 @@
 
 mod fields;
 mod lines;
+mod reading;
 mod script;
 
 use std::io;
