@@ -1,1 +1,4 @@
 pub mod Loop
+pub mod Numbers
+pub mod Bytes
+pub mod Forms
