@@ -8,14 +8,18 @@ use Rattle.splinter.specs.Reading.{Reader, ◌>>=◌, word_at, number_at, same_a
 use Rattle.splinter.proofs.Numbers.{bind_some, number_take, number_again}
 use Rattle.splinter.proofs.Bytes.{word_take, word_again, Ends, ends_numbers, bytes_take, bytes_again, key_take, key_again}
 
--- spelled value rest: the value's spelling with the rest behind it
-pub record Form (X : Type 0) (read : Reader X) (spelled : X → List ℕ → List ℕ) (Fits : X → Type 0) : Type 0 where
+-- spelled value rest: the value's spelling with the rest behind it, which has to be as Follows says
+pub record Form (X : Type 0) (read : Reader X) (spelled : X → List ℕ → List ℕ) (Fits : X → Type 0) (Follows : List ℕ → Type 0) : Type 0 where
   pub takes : (text : List ℕ) (x : X × List ℕ) → read text ≡ Some x → (text ≡ spelled x.0 x.1) × Fits x.0
-  pub again : (value : X) (rest : List ℕ) → Fits value → Ends rest → read (spelled value rest) ≡ Some (value, rest)
+  pub again : (value : X) (rest : List ℕ) → Fits value → Follows rest → read (spelled value rest) ≡ Some (value, rest)
 
--- no hexadecimal digit begins a spelling
-abbrev pub Begins : (X : Type 0) → (X → List ℕ → List ℕ) → (X → Type 0) → Type 0
-Begins X spelled Fits = (value : X) (rest : List ℕ) → Fits value → Ends rest → Ends (spelled value rest)
+-- anything may follow
+abbrev pub Anything : List ℕ → Type 0
+Anything rest = Unit {0}
+
+-- a spelling is what may follow another one
+abbrev pub Joins : (X : Type 0) → (X → List ℕ → List ℕ) → (X → Type 0) → (List ℕ → Type 0) → (List ℕ → Type 0) → Type 0
+Joins X spelled Fits Follows Before = (value : X) (rest : List ℕ) → Fits value → Follows rest → Before (spelled value rest)
 
 abbrev pub spelled_number : ℕ → List ℕ → List ℕ
 spelled_number number rest = decimal number ++ rest
@@ -24,7 +28,7 @@ pub record IsWithin (least most number : ℕ) : Type 0 where
   pub low : least ≤ number
   pub high : number ≤ most
 
-pub number_form : (least most : ℕ) → most < 2 ^ 64 → Form ℕ (number_at least most) spelled_number (IsWithin least most)
+pub number_form : (least most : ℕ) → most < 2 ^ 64 → Form ℕ (number_at least most) spelled_number (IsWithin least most) Ends
 number_form least most fits = record {
   takes = λ text x e. let t = number_take least most text x fits e in (t.0, record { low = t.1; high = t.2 });
   again = λ number rest within ends. number_again least most number rest fits within.low within.high (ends_numbers rest ends);
@@ -37,7 +41,7 @@ pub record IsField (most : ℕ) (bytes : List ℕ) : Type 0 where
   pub are : AreBytes bytes
   pub few : length bytes ≤ most
 
-pub bytes_form : (most : ℕ) → Form (List ℕ) (bytes_at most) spelled_bytes (IsField most)
+pub bytes_form : (most : ℕ) → Form (List ℕ) (bytes_at most) spelled_bytes (IsField most) Ends
 bytes_form most = record {
   takes = λ text x e. let t = bytes_take most text x e in (t.0, record { are = t.1; few = t.2 });
   again = λ bytes rest fits ends. bytes_again most bytes rest fits.are fits.few ends;
@@ -47,15 +51,15 @@ pub record IsKeyField (bytes : List ℕ) : Type 0 where
   pub are : AreBytes bytes
   pub key : IsKey bytes
 
-pub key_form : Form (List ℕ) key_at spelled_bytes IsKeyField
+pub key_form : Form (List ℕ) key_at spelled_bytes IsKeyField Ends
 key_form = record {
   takes = λ text x e. let t = key_take text x e in (t.0, record { are = t.1; key = t.2 });
   again = λ bytes rest fits ends. key_again bytes rest fits.are fits.key ends;
 }
 
-pub after_form : (X : Type 0) (word : List ℕ) (read : Reader X) (spelled : X → List ℕ → List ℕ) (Fits : X → Type 0)
-    → Form X read spelled Fits → Form X (after word read) (λ value rest. word ++ spelled value rest) Fits
-after_form X word read spelled Fits form = record {
+pub after_form : (X : Type 0) (word : List ℕ) (read : Reader X) (spelled : X → List ℕ → List ℕ) (Fits : X → Type 0) (Follows : List ℕ → Type 0)
+    → Form X read spelled Fits Follows → Form X (after word read) (λ value rest. word ++ spelled value rest) Fits Follows
+after_form X word read spelled Fits Follows form = record {
   takes = λ text x e.
     let b = bind_some (word_at word text) read x e in
     let t = form.takes b.0 x b.2 in
@@ -78,20 +82,20 @@ unfolding same_at
 same_again number rest small ends =
     ap (λ (o : Option (ℕ × List ℕ)). o >>= λ x. Some x.1) (number_again number number number rest small (omega arith) (omega arith) (ends_numbers rest ends))
 
-pub after_number_form : (X : Type 0) (number : ℕ) (read : Reader X) (spelled : X → List ℕ → List ℕ) (Fits : X → Type 0)
-    → number < 2 ^ 64 → Begins X spelled Fits → Form X read spelled Fits → Form X (after_number number read) (λ value rest. decimal number ++ spelled value rest) Fits
-after_number_form X number read spelled Fits small begins form = record {
+pub after_number_form : (X : Type 0) (number : ℕ) (read : Reader X) (spelled : X → List ℕ → List ℕ) (Fits : X → Type 0) (Follows : List ℕ → Type 0)
+    → number < 2 ^ 64 → Form X read spelled Fits Follows → Joins X spelled Fits Follows Ends → Form X (after_number number read) (λ value rest. decimal number ++ spelled value rest) Fits Follows
+after_number_form X number read spelled Fits Follows small form joins = record {
   takes = λ text x e.
     let b = bind_some (same_at number text) read x e in
     let t = form.takes b.0 x b.2 in
     (same_take number text b.0 small b.1 ∙ ap (λ (r : List ℕ). decimal number ++ r) t.0, t.1);
   again = λ value rest fits ends.
-    ap (λ (o : Option (List ℕ)). o >>= read) (same_again number (spelled value rest) small (begins value rest fits ends)) ∙ form.again value rest fits ends;
+    ap (λ (o : Option (List ℕ)). o >>= read) (same_again number (spelled value rest) small (joins value rest fits ends)) ∙ form.again value rest fits ends;
 }
 
-pub before_form : (X : Type 0) (word : List ℕ) (read : Reader X) (spelled : X → List ℕ → List ℕ) (Fits : X → Type 0)
-    → ((rest : List ℕ) → Ends (word ++ rest)) → Form X read spelled Fits → Form X (before word read) (λ value rest. spelled value (word ++ rest)) Fits
-before_form X word read spelled Fits begins form = record {
+pub before_form : (X : Type 0) (word : List ℕ) (read : Reader X) (spelled : X → List ℕ → List ℕ) (Fits : X → Type 0) (Follows : List ℕ → Type 0)
+    → Form X read spelled Fits Follows → ((rest : List ℕ) → Follows (word ++ rest)) → Form X (before word read) (λ value rest. spelled value (word ++ rest)) Fits Anything
+before_form X word read spelled Fits Follows form joins = record {
   takes = λ text x e.
     let a = bind_some (read text) (λ y. word_at word y.1 >>= λ rest. Some (y.0, rest)) x e in
     let b = bind_some (word_at word a.0.1) (λ rest. Some (a.0.0, rest)) x a.2 in
@@ -100,7 +104,7 @@ before_form X word read spelled Fits begins form = record {
     let text_is : text ≡ spelled a.0.0 (word ++ b.0) = t.0 ∙ ap (λ (r : List ℕ). spelled a.0.0 r) (word_take word a.0.1 b.0 b.1) in
     subst (λ (y : X × List ℕ). (text ≡ spelled y.0 (word ++ y.1)) × Fits y.0) (same_Some made x b.2) (text_is, t.1);
   again = λ value rest fits ends.
-    ap (λ (o : Option (X × List ℕ)). o >>= λ y. word_at word y.1 >>= λ r. Some (y.0, r)) (form.again value (word ++ rest) fits (begins rest))
+    ap (λ (o : Option (X × List ℕ)). o >>= λ y. word_at word y.1 >>= λ r. Some (y.0, r)) (form.again value (word ++ rest) fits (joins rest))
     ∙ ap (λ (o : Option (List ℕ)). o >>= λ r. Some (value, r)) (word_again word rest);
 }
 
@@ -108,12 +112,12 @@ pub record BothFit (A B : Type 0) (FitsA : A → Type 0) (FitsB : A → B → Ty
   pub one : FitsA x.0
   pub two : FitsB x.0 x.1
 
-pub both_form : (A B : Type 0) (first : Reader A) (next : A → Reader B) (spelledA : A → List ℕ → List ℕ) (spelledB : A → B → List ℕ → List ℕ) (FitsA : A → Type 0) (FitsB : A → B → Type 0)
-    → Form A first spelledA FitsA
-    → ((a : A) → FitsA a → Begins B (spelledB a) (FitsB a))
-    → ((a : A) → FitsA a → Form B (next a) (spelledB a) (FitsB a))
-    → Form (A × B) (both first next) (λ x rest. spelledA x.0 (spelledB x.0 x.1 rest)) (BothFit A B FitsA FitsB)
-both_form A B first next spelledA spelledB FitsA FitsB one begins two = record {
+pub both_form : (A B : Type 0) (first : Reader A) (next : A → Reader B) (spelledA : A → List ℕ → List ℕ) (spelledB : A → B → List ℕ → List ℕ) (FitsA : A → Type 0) (FitsB : A → B → Type 0) (FollowsA FollowsB : List ℕ → Type 0)
+    → Form A first spelledA FitsA FollowsA
+    → ((a : A) → FitsA a → Form B (next a) (spelledB a) (FitsB a) FollowsB)
+    → ((a : A) → FitsA a → Joins B (spelledB a) (FitsB a) FollowsB FollowsA)
+    → Form (A × B) (both first next) (λ x rest. spelledA x.0 (spelledB x.0 x.1 rest)) (BothFit A B FitsA FitsB) FollowsB
+both_form A B first next spelledA spelledB FitsA FitsB FollowsA FollowsB one two joins = record {
   takes = λ text x e.
     let a = bind_some (first text) (λ u. next u.0 u.1 >>= λ v. Some ((u.0, v.0), v.1)) x e in
     let b = bind_some (next a.0.0 a.0.1) (λ v. Some ((a.0.0, v.0), v.1)) x a.2 in
@@ -123,16 +127,16 @@ both_form A B first next spelledA spelledB FitsA FitsB one begins two = record {
     let text_is : text ≡ spelledA a.0.0 (spelledB a.0.0 b.0.0 b.0.1) = s.0 ∙ ap (λ (r : List ℕ). spelledA a.0.0 r) t.0 in
     subst (λ (y : (A × B) × List ℕ). (text ≡ spelledA y.0.0 (spelledB y.0.0 y.0.1 y.1)) × BothFit A B FitsA FitsB y.0) (same_Some made x b.2) (text_is, record { one = s.1; two = t.1 });
   again = λ value rest fits ends.
-    ap (λ (o : Option (A × List ℕ)). o >>= λ u. next u.0 u.1 >>= λ v. Some ((u.0, v.0), v.1)) (one.again value.0 (spelledB value.0 value.1 rest) fits.one (begins value.0 fits.one value.1 rest fits.two ends))
+    ap (λ (o : Option (A × List ℕ)). o >>= λ u. next u.0 u.1 >>= λ v. Some ((u.0, v.0), v.1)) (one.again value.0 (spelledB value.0 value.1 rest) fits.one (joins value.0 fits.one value.1 rest fits.two ends))
     ∙ ap (λ (o : Option (B × List ℕ)). o >>= λ v. Some ((value.0, v.0), v.1)) ((two value.0 fits.one).again value.1 rest fits.two ends);
 }
 
 -- view and parts lead from one value to the other and back
-pub mapped_form : (A B : Type 0) (view : A → B) (parts : B → A) (read : Reader A) (spelled : A → List ℕ → List ℕ) (FitsA : A → Type 0) (FitsB : B → Type 0)
+pub mapped_form : (A B : Type 0) (view : A → B) (parts : B → A) (read : Reader A) (spelled : A → List ℕ → List ℕ) (FitsA : A → Type 0) (FitsB : B → Type 0) (Follows : List ℕ → Type 0)
     → ((a : A) → parts (view a) ≡ a) → ((b : B) → FitsB b → view (parts b) ≡ b)
     → ((a : A) → FitsA a → FitsB (view a)) → ((b : B) → FitsB b → FitsA (parts b))
-    → Form A read spelled FitsA → Form B (mapped view read) (λ value rest. spelled (parts value) rest) FitsB
-mapped_form A B view parts read spelled FitsA FitsB back there fits_view fits_parts form = record {
+    → Form A read spelled FitsA Follows → Form B (mapped view read) (λ value rest. spelled (parts value) rest) FitsB Follows
+mapped_form A B view parts read spelled FitsA FitsB Follows back there fits_view fits_parts form = record {
   takes = λ text x e.
     let a = bind_some (read text) (λ y. Some (view y.0, y.1)) x e in
     let t = form.takes text a.0 a.1 in

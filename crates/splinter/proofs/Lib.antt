@@ -2,3 +2,6 @@ pub mod Loop
 pub mod Numbers
 pub mod Bytes
 pub mod Forms
+pub mod LineForms
+pub mod Spelling
+pub mod ScriptLaws
