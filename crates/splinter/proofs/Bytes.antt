@@ -1,9 +1,9 @@
 -- A byte field that is read is the field that is spelled, and what is spelled is read again.
-use Rattle.std.proofs.Common.{◌≡◌, ℕ, zero, suc, ◌+◌, ◌-◌, ◌*◌, ◌/◌, ◌%◌, ◌<◌, ◌≤◌, Bool, true, false, cond, ltb, leb, ◌&&◌, List, [], ◌∷◌, ◌++◌, length, take, drop, codes, Option, Some, None, inl, inr, refl, sym, ap, subst, ◌∙◌, append_assoc, arith}
+use Rattle.std.proofs.Common.{◌≡◌, ℕ, zero, suc, ◌+◌, ◌-◌, ◌*◌, ◌/◌, ◌%◌, ◌<◌, ◌≤◌, true, false, cond, ltb, leb, ◌&&◌, List, [], ◌∷◌, ◌++◌, length, take, drop, codes, Some, None, inl, inr, refl, sym, ap, subst, ◌∙◌, arith}
 use Rattle.std.specs.List.{flat_map}
 use Rattle.std.specs.Str.{bytes_eq}
 use Rattle.std.specs.Cmp.Lexicographic.{bytes_decides}
-use Rattle.std.proofs.lemmas.Bool.{ltb-true, ltb-false, lt-ltb, le-ltb, leb-true, le-leb, cases_lt, and_parts}
+use Rattle.std.proofs.lemmas.Bool.{ltb-false, lt-ltb, le-ltb, leb-true, le-leb, cases_lt, and_parts}
 use Rattle.std.proofs.lemmas.List.{take-append-drop, take_at, drop_at}
 use Rattle.std.proofs.lemmas.Option.{cond_some, same_Some}
 use Rattle.sp_base.specs.Limits.{IsKey}
@@ -51,16 +51,16 @@ unfolding hex_value
 hex_is byte value e =
     elim (option_cases (digit_value byte)) [
       | inl none ↦
-        let letter : letter_value byte ≡ Some value = rw none at e in
-        let l = letter_is byte value letter in
-        (l.0 ∙ sym (hex_high value l.1), l.2)
+          let letter : letter_value byte ≡ Some value = rw none at e in
+          let l = letter_is byte value letter in
+          (l.0 ∙ sym (hex_high value l.1), l.2)
       | inr some ↦
-        let found : Some some.0 ≡ Some value = rw some.1 at e in
-        let same : some.0 ≡ value = same_Some some.0 value found in
-        let d = digit_is byte some.0 some.1 in
-        let lt : value < 10 = omega (arith, d.1) in
-        let is : byte ≡ 48 + value = omega (arith, d.0) in
-        (is ∙ sym (hex_low value lt), omega arith)
+          let found : Some some.0 ≡ Some value = rw some.1 at e in
+          let same : some.0 ≡ value = same_Some some.0 value found in
+          let d = digit_is byte some.0 some.1 in
+          let lt : value < 10 = omega (arith, d.1) in
+          let is : byte ≡ 48 + value = omega (arith, d.0) in
+          (is ∙ sym (hex_low value lt), omega arith)
     ]
 
 no_digit_letter : (value : ℕ) → 10 ≤ value → digit_value (87 + value) ≡ None
@@ -157,10 +157,10 @@ pairs_take (suc most) text =
     elim (option_cases (pair_at text)) [
       | inl none ↦ subst (λ (x : List ℕ × List ℕ). Reads (suc most) text x) (sym (pairs_none most text none)) (refl, tt, omega arith)
       | inr some ↦
-        let p = pair_take text some.0 some.1 in
-        let rest = pairs_take most some.0.1 in
-        let more : length (some.0.0 ∷ (pairs_at most some.0.1).0) ≤ suc most = omega (arith, rest.2) in
-        subst (λ (x : List ℕ × List ℕ). Reads (suc most) text x) (sym (pairs_some most text some.0 some.1)) (p.0 ∙ ap (λ (r : List ℕ). hex_pair some.0.0 ++ r) rest.0, (p.1, rest.1), more)
+          let p = pair_take text some.0 some.1 in
+          let rest = pairs_take most some.0.1 in
+          let more : length (some.0.0 ∷ (pairs_at most some.0.1).0) ≤ suc most = omega (arith, rest.2) in
+          subst (λ (x : List ℕ × List ℕ). Reads (suc most) text x) (sym (pairs_some most text some.0 some.1)) (p.0 ∙ ap (λ (r : List ℕ). hex_pair some.0.0 ++ r) rest.0, (p.1, rest.1), more)
     ]
 
 pairs_again : (most : ℕ) (bytes rest : List ℕ) → AreBytes bytes → length bytes ≤ most → Ends rest → pairs_at most (flat_map hex_pair bytes ++ rest) ≡ (bytes, rest)

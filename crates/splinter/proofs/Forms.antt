@@ -1,5 +1,5 @@
 -- A form: what its reader reads is spelled so, and what is spelled so is read again.
-use Rattle.std.proofs.Common.{◌≡◌, ℕ, suc, ◌+◌, ◌-◌, ◌^◌, ◌<◌, ◌≤◌, List, [], ◌∷◌, ◌++◌, length, Option, Some, None, inl, inr, refl, sym, ap, subst, ◌∙◌, arith}
+use Rattle.std.proofs.Common.{◌≡◌, ℕ, ◌^◌, ◌<◌, ◌≤◌, List, ◌++◌, length, Option, Some, sym, ap, subst, ◌∙◌, arith}
 use Rattle.std.specs.Fmt.{decimal}
 use Rattle.std.proofs.lemmas.Option.{same_Some}
 use Rattle.sp_base.specs.Limits.{IsKey}
@@ -61,11 +61,11 @@ pub after_form : (X : Type 0) (word : List ℕ) (read : Reader X) (spelled : X �
     → Form X read spelled Fits Follows → Form X (after word read) (λ value rest. word ++ spelled value rest) Fits Follows
 after_form X word read spelled Fits Follows form = record {
   takes = λ text x e.
-    let b = bind_some (word_at word text) read x e in
-    let t = form.takes b.0 x b.2 in
-    (word_take word text b.0 b.1 ∙ ap (λ (r : List ℕ). word ++ r) t.0, t.1);
+      let b = bind_some (word_at word text) read x e in
+      let t = form.takes b.0 x b.2 in
+      (word_take word text b.0 b.1 ∙ ap (λ (r : List ℕ). word ++ r) t.0, t.1);
   again = λ value rest fits ends.
-    ap (λ (o : Option (List ℕ)). o >>= read) (word_again word (spelled value rest)) ∙ form.again value rest fits ends;
+      ap (λ (o : Option (List ℕ)). o >>= read) (word_again word (spelled value rest)) ∙ form.again value rest fits ends;
 }
 
 same_take : (number : ℕ) (text rest : List ℕ) → number < 2 ^ 64 → same_at number text ≡ Some rest → text ≡ decimal number ++ rest
@@ -86,26 +86,26 @@ pub after_number_form : (X : Type 0) (number : ℕ) (read : Reader X) (spelled :
     → number < 2 ^ 64 → Form X read spelled Fits Follows → Joins X spelled Fits Follows Ends → Form X (after_number number read) (λ value rest. decimal number ++ spelled value rest) Fits Follows
 after_number_form X number read spelled Fits Follows small form joins = record {
   takes = λ text x e.
-    let b = bind_some (same_at number text) read x e in
-    let t = form.takes b.0 x b.2 in
-    (same_take number text b.0 small b.1 ∙ ap (λ (r : List ℕ). decimal number ++ r) t.0, t.1);
+      let b = bind_some (same_at number text) read x e in
+      let t = form.takes b.0 x b.2 in
+      (same_take number text b.0 small b.1 ∙ ap (λ (r : List ℕ). decimal number ++ r) t.0, t.1);
   again = λ value rest fits ends.
-    ap (λ (o : Option (List ℕ)). o >>= read) (same_again number (spelled value rest) small (joins value rest fits ends)) ∙ form.again value rest fits ends;
+      ap (λ (o : Option (List ℕ)). o >>= read) (same_again number (spelled value rest) small (joins value rest fits ends)) ∙ form.again value rest fits ends;
 }
 
 pub before_form : (X : Type 0) (word : List ℕ) (read : Reader X) (spelled : X → List ℕ → List ℕ) (Fits : X → Type 0) (Follows : List ℕ → Type 0)
     → Form X read spelled Fits Follows → ((rest : List ℕ) → Follows (word ++ rest)) → Form X (before word read) (λ value rest. spelled value (word ++ rest)) Fits Anything
 before_form X word read spelled Fits Follows form joins = record {
   takes = λ text x e.
-    let a = bind_some (read text) (λ y. word_at word y.1 >>= λ rest. Some (y.0, rest)) x e in
-    let b = bind_some (word_at word a.0.1) (λ rest. Some (a.0.0, rest)) x a.2 in
-    let t = form.takes text a.0 a.1 in
-    let made : X × List ℕ = (a.0.0, b.0) in
-    let text_is : text ≡ spelled a.0.0 (word ++ b.0) = t.0 ∙ ap (λ (r : List ℕ). spelled a.0.0 r) (word_take word a.0.1 b.0 b.1) in
-    subst (λ (y : X × List ℕ). (text ≡ spelled y.0 (word ++ y.1)) × Fits y.0) (same_Some made x b.2) (text_is, t.1);
+      let a = bind_some (read text) (λ y. word_at word y.1 >>= λ rest. Some (y.0, rest)) x e in
+      let b = bind_some (word_at word a.0.1) (λ rest. Some (a.0.0, rest)) x a.2 in
+      let t = form.takes text a.0 a.1 in
+      let made : X × List ℕ = (a.0.0, b.0) in
+      let text_is : text ≡ spelled a.0.0 (word ++ b.0) = t.0 ∙ ap (λ (r : List ℕ). spelled a.0.0 r) (word_take word a.0.1 b.0 b.1) in
+      subst (λ (y : X × List ℕ). (text ≡ spelled y.0 (word ++ y.1)) × Fits y.0) (same_Some made x b.2) (text_is, t.1);
   again = λ value rest fits ends.
-    ap (λ (o : Option (X × List ℕ)). o >>= λ y. word_at word y.1 >>= λ r. Some (y.0, r)) (form.again value (word ++ rest) fits (joins rest))
-    ∙ ap (λ (o : Option (List ℕ)). o >>= λ r. Some (value, r)) (word_again word rest);
+      ap (λ (o : Option (X × List ℕ)). o >>= λ y. word_at word y.1 >>= λ r. Some (y.0, r)) (form.again value (word ++ rest) fits (joins rest))
+      ∙ ap (λ (o : Option (List ℕ)). o >>= λ r. Some (value, r)) (word_again word rest);
 }
 
 pub record BothFit (A B : Type 0) (FitsA : A → Type 0) (FitsB : A → B → Type 0) (x : A × B) : Type 0 where
@@ -119,16 +119,16 @@ pub both_form : (A B : Type 0) (first : Reader A) (next : A → Reader B) (spell
     → Form (A × B) (both first next) (λ x rest. spelledA x.0 (spelledB x.0 x.1 rest)) (BothFit A B FitsA FitsB) FollowsB
 both_form A B first next spelledA spelledB FitsA FitsB FollowsA FollowsB one two joins = record {
   takes = λ text x e.
-    let a = bind_some (first text) (λ u. next u.0 u.1 >>= λ v. Some ((u.0, v.0), v.1)) x e in
-    let b = bind_some (next a.0.0 a.0.1) (λ v. Some ((a.0.0, v.0), v.1)) x a.2 in
-    let s = one.takes text a.0 a.1 in
-    let t = (two a.0.0 s.1).takes a.0.1 b.0 b.1 in
-    let made : (A × B) × List ℕ = ((a.0.0, b.0.0), b.0.1) in
-    let text_is : text ≡ spelledA a.0.0 (spelledB a.0.0 b.0.0 b.0.1) = s.0 ∙ ap (λ (r : List ℕ). spelledA a.0.0 r) t.0 in
-    subst (λ (y : (A × B) × List ℕ). (text ≡ spelledA y.0.0 (spelledB y.0.0 y.0.1 y.1)) × BothFit A B FitsA FitsB y.0) (same_Some made x b.2) (text_is, record { one = s.1; two = t.1 });
+      let a = bind_some (first text) (λ u. next u.0 u.1 >>= λ v. Some ((u.0, v.0), v.1)) x e in
+      let b = bind_some (next a.0.0 a.0.1) (λ v. Some ((a.0.0, v.0), v.1)) x a.2 in
+      let s = one.takes text a.0 a.1 in
+      let t = (two a.0.0 s.1).takes a.0.1 b.0 b.1 in
+      let made : (A × B) × List ℕ = ((a.0.0, b.0.0), b.0.1) in
+      let text_is : text ≡ spelledA a.0.0 (spelledB a.0.0 b.0.0 b.0.1) = s.0 ∙ ap (λ (r : List ℕ). spelledA a.0.0 r) t.0 in
+      subst (λ (y : (A × B) × List ℕ). (text ≡ spelledA y.0.0 (spelledB y.0.0 y.0.1 y.1)) × BothFit A B FitsA FitsB y.0) (same_Some made x b.2) (text_is, record { one = s.1; two = t.1 });
   again = λ value rest fits ends.
-    ap (λ (o : Option (A × List ℕ)). o >>= λ u. next u.0 u.1 >>= λ v. Some ((u.0, v.0), v.1)) (one.again value.0 (spelledB value.0 value.1 rest) fits.one (joins value.0 fits.one value.1 rest fits.two ends))
-    ∙ ap (λ (o : Option (B × List ℕ)). o >>= λ v. Some ((value.0, v.0), v.1)) ((two value.0 fits.one).again value.1 rest fits.two ends);
+      ap (λ (o : Option (A × List ℕ)). o >>= λ u. next u.0 u.1 >>= λ v. Some ((u.0, v.0), v.1)) (one.again value.0 (spelledB value.0 value.1 rest) fits.one (joins value.0 fits.one value.1 rest fits.two ends))
+      ∙ ap (λ (o : Option (B × List ℕ)). o >>= λ v. Some ((value.0, v.0), v.1)) ((two value.0 fits.one).again value.1 rest fits.two ends);
 }
 
 -- view and parts lead from one value to the other and back
@@ -138,12 +138,12 @@ pub mapped_form : (A B : Type 0) (view : A → B) (parts : B → A) (read : Read
     → Form A read spelled FitsA Follows → Form B (mapped view read) (λ value rest. spelled (parts value) rest) FitsB Follows
 mapped_form A B view parts read spelled FitsA FitsB Follows back there fits_view fits_parts form = record {
   takes = λ text x e.
-    let a = bind_some (read text) (λ y. Some (view y.0, y.1)) x e in
-    let t = form.takes text a.0 a.1 in
-    let made : B × List ℕ = (view a.0.0, a.0.1) in
-    let text_is : text ≡ spelled (parts (view a.0.0)) a.0.1 = t.0 ∙ ap (λ (v : A). spelled v a.0.1) (sym (back a.0.0)) in
-    subst (λ (y : B × List ℕ). (text ≡ spelled (parts y.0) y.1) × FitsB y.0) (same_Some made x a.2) (text_is, fits_view a.0.0 t.1);
+      let a = bind_some (read text) (λ y. Some (view y.0, y.1)) x e in
+      let t = form.takes text a.0 a.1 in
+      let made : B × List ℕ = (view a.0.0, a.0.1) in
+      let text_is : text ≡ spelled (parts (view a.0.0)) a.0.1 = t.0 ∙ ap (λ (v : A). spelled v a.0.1) (sym (back a.0.0)) in
+      subst (λ (y : B × List ℕ). (text ≡ spelled (parts y.0) y.1) × FitsB y.0) (same_Some made x a.2) (text_is, fits_view a.0.0 t.1);
   again = λ value rest fits ends.
-    ap (λ (o : Option (A × List ℕ)). o >>= λ y. Some (view y.0, y.1)) (form.again (parts value) rest (fits_parts value fits) ends)
-    ∙ ap (λ (b : B). Some (b, rest)) (there value fits);
+      ap (λ (o : Option (A × List ℕ)). o >>= λ y. Some (view y.0, y.1)) (form.again (parts value) rest (fits_parts value fits) ends)
+      ∙ ap (λ (b : B). Some (b, rest)) (there value fits);
 }

@@ -1,5 +1,5 @@
 -- The lines of a script are forms.
-use Rattle.std.proofs.Common.{◌≡◌, ◌≢◌, ℕ, ◌+◌, ◌-◌, ◌^◌, ◌<◌, ◌≤◌, List, [], ◌∷◌, ◌++◌, codes, Option, Some, None, false, Bool, inl, inr, refl, sym, ap, subst, ◌∙◌, arith}
+use Rattle.std.proofs.Common.{◌≡◌, ◌≢◌, ℕ, ◌^◌, ◌<◌, List, ◌++◌, codes, Some, None, false, Bool, inl, inr, refl, subst, arith}
 use Rattle.std.specs.Fmt.{decimal}
 use Rattle.std.proofs.lemmas.Option.{same_Some}
 use Rattle.sp_base.specs.declared.rights.Level.{Level}
@@ -8,7 +8,7 @@ use Rattle.sp_base.specs.declared.numbers.TenantId.{TenantId}
 use Rattle.sp_base.specs.declared.calls.Call.{Call}
 use Rattle.splinter.specs.Fields.{byte_field}
 use Rattle.splinter.specs.Script.{newline, level_word, IsScriptCall}
-use Rattle.splinter.specs.Reading.{◌>>=◌, word_at, digit_value, hex_value, after}
+use Rattle.splinter.specs.Reading.{word_at, digit_value, hex_value, after}
 use Rattle.splinter.specs.Lines.{u32_max, u64_max, level_at, next_number_at, tenant_line_at, table_line_at, put_line_at, extension_at, begin_line_at, BeginParts, call_of, call_at}
 use Rattle.splinter.proofs.Numbers.{bind_some, option_cases}
 use Rattle.splinter.proofs.Bytes.{word_take, word_again, Ends}
@@ -55,14 +55,14 @@ unfolding level_at
 level_take text x e =
     elim (option_cases (word_at (codes "read") text)) [
       | inl none ↦
-        let write : after (codes "write") (λ rest. Some (Write, rest)) text ≡ Some x = rw none at e in
-        let b = bind_some (word_at (codes "write") text) (λ rest. Some (Write, rest)) x write in
-        let made : Level × List ℕ = (Write, b.0) in
-        subst (λ (y : Level × List ℕ). (text ≡ level_word y.0 ++ y.1) × IsLevel y.0) (same_Some made x b.2) (word_take (codes "write") text b.0 b.1, λ h. cc)
+          let write : after (codes "write") (λ rest. Some (Write, rest)) text ≡ Some x = rw none at e in
+          let b = bind_some (word_at (codes "write") text) (λ rest. Some (Write, rest)) x write in
+          let made : Level × List ℕ = (Write, b.0) in
+          subst (λ (y : Level × List ℕ). (text ≡ level_word y.0 ++ y.1) × IsLevel y.0) (same_Some made x b.2) (word_take (codes "write") text b.0 b.1, λ h. cc)
       | inr some ↦
-        let made : Level × List ℕ = (Read, some.0) in
-        let read : Some made ≡ Some x = rw some.1 at e in
-        subst (λ (y : Level × List ℕ). (text ≡ level_word y.0 ++ y.1) × IsLevel y.0) (same_Some made x read) (word_take (codes "read") text some.0 some.1, λ h. cc)
+          let made : Level × List ℕ = (Read, some.0) in
+          let read : Some made ≡ Some x = rw some.1 at e in
+          subst (λ (y : Level × List ℕ). (text ≡ level_word y.0 ++ y.1) × IsLevel y.0) (same_Some made x read) (word_take (codes "read") text some.0 some.1, λ h. cc)
     ]
 
 not_read : (rest : List ℕ) → word_at (codes "read") (codes "write" ++ rest) ≡ None
@@ -105,8 +105,8 @@ unfolding table_line_at
 table_form tenant small = after_form _ (codes "table ") _ _ _ _ (both_form _ _ _ _ _ _ _ _ _ _
     (number_form 0 u32_max below32)
     (λ _ _. after_form _ (codes " ") _ _ _ _ (after_number_form _ tenant _ _ _ _ small
-      (after_form _ (codes " ") _ _ _ _ (before_form _ newline _ _ _ _ level_form (λ _. tt)))
-      (λ _ _ _ _. space)))
+    (after_form _ (codes " ") _ _ _ _ (before_form _ newline _ _ _ _ level_form (λ _. tt)))
+    (λ _ _ _ _. space)))
     (λ _ _ _ _ _ _. space))
 
 abbrev pub PutFits : ℕ × (List ℕ × List ℕ) → Type 0
@@ -121,12 +121,12 @@ pub put_form : (tenant : ℕ) → tenant < 2 ^ 64 → Form (ℕ × (List ℕ × 
 unfolding put_line_at
 put_form tenant small = after_form _ (codes "put ") _ _ _ _ (after_number_form _ tenant _ _ _ _ small
     (both_form _ _ _ _ _ _ _ _ _ _
-      (next_form 0 u32_max below32)
-      (λ _ _. after_form _ (codes " ") _ _ _ _ (both_form _ _ _ _ _ _ _ _ _ _
-        key_form
-        (λ _ _. after_form _ (codes " ") _ _ _ _ (before_form _ newline _ _ _ _ (bytes_form 4096) (λ _. line_end)))
-        (λ _ _ _ _ _ _. space)))
-      (λ _ _ _ _ _ _. space))
+    (next_form 0 u32_max below32)
+    (λ _ _. after_form _ (codes " ") _ _ _ _ (both_form _ _ _ _ _ _ _ _ _ _
+    key_form
+    (λ _ _. after_form _ (codes " ") _ _ _ _ (before_form _ newline _ _ _ _ (bytes_form 4096) (λ _. line_end)))
+    (λ _ _ _ _ _ _. space)))
+    (λ _ _ _ _ _ _. space))
     (λ _ _ _ _. space))
 
 abbrev pub ExtensionFits : ℕ × ℕ → Type 0
@@ -147,9 +147,9 @@ pub extension_form : (tenant : ℕ) → tenant < 2 ^ 64 → Form (ℕ × ℕ) (e
 unfolding extension_at
 extension_form tenant small = after_form _ (codes "ext ") _ _ _ _ (after_number_form _ tenant _ _ _ _ small
     (after_form _ (codes " 1" ++ newline) _ _ _ _ (after_form _ program_front _ _ _ _ (both_form _ _ _ _ _ _ _ _ _ _
-      (number_form 0 u64_max below64)
-      (λ _ _. after_form _ program_middle _ _ _ _ (before_form _ (codes "; }" ++ newline) _ _ _ _ (number_form 0 u64_max below64) (λ _. semicolon)))
-      (λ _ _ _ _ _ _. comma))))
+    (number_form 0 u64_max below64)
+    (λ _ _. after_form _ program_middle _ _ _ _ (before_form _ (codes "; }" ++ newline) _ _ _ _ (number_form 0 u64_max below64) (λ _. semicolon)))
+    (λ _ _ _ _ _ _. comma))))
     (λ _ _ _ _. space))
 
 abbrev pub BudgetFits : ℕ × List ℕ → Type 0
@@ -173,14 +173,14 @@ pub begin_form : (tenant : ℕ) → tenant < 2 ^ 64 → Form BeginParts (begin_l
 unfolding begin_line_at
 begin_form tenant small = after_form _ (codes "begin 0 ") _ _ _ _ (after_number_form _ tenant _ _ _ _ small
     (both_form _ _ _ _ _ _ _ _ _ _ (next_form 0 u32_max below32)
-      (λ _ _. both_form _ _ _ _ _ _ _ _ _ _ (next_form 1 u64_max below64)
-        (λ _ _. both_form _ _ _ _ _ _ _ _ _ _ (next_form 0 u32_max below32)
-          (λ _ _. both_form _ _ _ _ _ _ _ _ _ _ (next_form 1 100000 below_budget)
-            (λ _ _. after_form _ (codes " stay ") _ _ _ _ (bytes_form 1024))
-            (λ _ _ _ _ _ _. space))
-          (λ _ _ _ _ _ _. space))
-        (λ _ _ _ _ _ _. space))
-      (λ _ _ _ _ _ _. space))
+    (λ _ _. both_form _ _ _ _ _ _ _ _ _ _ (next_form 1 u64_max below64)
+    (λ _ _. both_form _ _ _ _ _ _ _ _ _ _ (next_form 0 u32_max below32)
+    (λ _ _. both_form _ _ _ _ _ _ _ _ _ _ (next_form 1 100000 below_budget)
+    (λ _ _. after_form _ (codes " stay ") _ _ _ _ (bytes_form 1024))
+    (λ _ _ _ _ _ _. space))
+    (λ _ _ _ _ _ _. space))
+    (λ _ _ _ _ _ _. space))
+    (λ _ _ _ _ _ _. space))
     (λ _ _ _ _. space))
 
 -- ---- the call

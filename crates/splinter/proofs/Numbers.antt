@@ -106,11 +106,11 @@ digits_take most (byte ∷ text) value fits pos le =
     elim (option_cases (with_digit most value byte)) [
       | inl none ↦ subst (λ (x : ℕ × List ℕ). Reads most (decimal value ++ byte ∷ text) x) (sym (digits_none most value byte text none)) (refl, le)
       | inr some ↦
-        let w = extends most value byte some.0 some.1 in
-        let more_pos : 0 < some.0 = omega (arith, w.more_is) in
-        let moved = extension_moves value w.digit byte some.0 text pos w.small w.byte_is w.more_is (omega (arith, w.within)) in
-        let rest = digits_take most text some.0 fits more_pos w.within in
-        subst (λ (x : ℕ × List ℕ). Reads most (decimal value ++ byte ∷ text) x) (sym (digits_some most value byte some.0 text some.1)) (moved ∙ rest.0, rest.1)
+          let w = extends most value byte some.0 some.1 in
+          let more_pos : 0 < some.0 = omega (arith, w.more_is) in
+          let moved = extension_moves value w.digit byte some.0 text pos w.small w.byte_is w.more_is (omega (arith, w.within)) in
+          let rest = digits_take most text some.0 fits more_pos w.within in
+          subst (λ (x : ℕ × List ℕ). Reads most (decimal value ++ byte ∷ text) x) (sym (digits_some most value byte some.0 text some.1)) (moved ∙ rest.0, rest.1)
     ]
 
 first_take : (most first : ℕ) (text : List ℕ) → most < 2 ^ 64 → first < 10 → first ≤ most → Reads most ((48 + first) ∷ text) (more_digits_at most first text)

@@ -1,5 +1,5 @@
 -- The two laws: what is read is spelled so, and what is spelled so is read.
-use Rattle.std.proofs.Common.{◌≡◌, ℕ, ◌+◌, ◌-◌, ◌^◌, ◌<◌, ◌≤◌, Bool, true, cond, List, [], ◌∷◌, ◌++◌, Option, Some, None, ◌⊎◌, inl, inr, refl, sym, ap, subst, ◌∙◌, arith}
+use Rattle.std.proofs.Common.{◌≡◌, ℕ, ◌^◌, ◌<◌, Bool, true, cond, List, [], ◌∷◌, ◌++◌, Option, Some, None, ◌⊎◌, inl, inr, refl, sym, ap, subst, ◌∙◌, arith}
 use Rattle.std.proofs.lemmas.Bool.{eqb-true}
 use Rattle.std.proofs.lemmas.List.{append-nil}
 use Rattle.std.proofs.lemmas.Option.{cond_some}
@@ -33,12 +33,12 @@ below number within = omega (arith, within.high)
 parts_form : Form Parts (both tenant_line_at (λ head. both (table_line_at head.0) (λ _. both (put_line_at head.0) (λ _. both (extension_at head.0) (λ _. call_at head.0))))) spelled_parts PartsFit Ends
 parts_form = both_form _ _ _ _ _ _ _ _ _ _ tenant_form
     (λ head fits. both_form _ _ _ _ _ _ _ _ _ _ (table_form head.0 (below head.0 fits.one))
-      (λ _ _. both_form _ _ _ _ _ _ _ _ _ _ (put_form head.0 (below head.0 fits.one))
-        (λ _ _. both_form _ _ _ _ _ _ _ _ _ _ (extension_form head.0 (below head.0 fits.one))
-          (λ _ _. call_form head.0 (below head.0 fits.one))
-          (λ _ _ _ _ _ _. tt))
-        (λ _ _ _ _ _ _. tt))
-      (λ _ _ _ _ _ _. tt))
+    (λ _ _. both_form _ _ _ _ _ _ _ _ _ _ (put_form head.0 (below head.0 fits.one))
+    (λ _ _. both_form _ _ _ _ _ _ _ _ _ _ (extension_form head.0 (below head.0 fits.one))
+    (λ _ _. call_form head.0 (below head.0 fits.one))
+    (λ _ _ _ _ _ _. tt))
+    (λ _ _ _ _ _ _. tt))
+    (λ _ _ _ _ _ _. tt))
     (λ _ _ _ _ _ _. tt)
 
 script_fits : (parts : Parts) → PartsFit parts → IsScript (script_of parts)

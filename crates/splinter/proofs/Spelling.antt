@@ -1,5 +1,5 @@
 -- The text of a script, piece by piece.
-use Rattle.std.proofs.Common.{◌≡◌, ℕ, List, [], ◌∷◌, ◌++◌, codes, refl, sym, ap, ◌∙◌, append_assoc}
+use Rattle.std.proofs.Common.{◌≡◌, ℕ, List, [], ◌∷◌, ◌++◌, codes, refl, ap, ◌∙◌, append_assoc}
 use Rattle.std.specs.Fmt.{decimal}
 use Rattle.std.specs.List.{concat}
 use Rattle.ext_mean.specs.declared.tree.Program.{Program}
@@ -67,9 +67,9 @@ script_spelled script rest =
     let after_table : List ℕ = put_line script ++ (newline ++ after_put) in
     let after_tenant : List ℕ = table_line script ++ (newline ++ after_table) in
     let extension : after_put ≡ spelled_extension tenant (script.program.table, script.program.code) after_begin =
-      ap (λ (r : List ℕ). ext_line script ++ (newline ++ (text_of script.program ++ r))) (begin_text script rest) ∙ extension_text script after_begin in
+    ap (λ (r : List ℕ). ext_line script ++ (newline ++ (text_of script.program ++ r))) (begin_text script rest) ∙ extension_text script after_begin in
     concat-joined (tenant_line script ∷ newline ∷ table_line script ∷ newline ∷ put_line script ∷ newline ∷ ext_line script ∷ newline ∷ text_of script.program ∷ begin_line script ∷ []) rest
     ∙ tenant_text script after_tenant
     ∙ ap (spelled_tenant (tenant, script.key)) (table_text script after_table
-      ∙ ap (spelled_table tenant (script.granted.0, script.level)) (put_text script after_put
-        ∙ ap (spelled_put tenant (script.put_table.0, (script.put_key, script.put_value))) extension))
+    ∙ ap (spelled_table tenant (script.granted.0, script.level)) (put_text script after_put
+    ∙ ap (spelled_put tenant (script.put_table.0, (script.put_key, script.put_value))) extension))

@@ -61,10 +61,7 @@ pub fn tenant_line(text: &[u8]) -> Result<((TenantId, u64), &[u8]), ReadFault>
 
 /// Reads `table N T LEVEL`.
 #[tactic(auto, unfolding(crate::specs::Lines::table_line_at))]
-pub fn table_line(
-    text: &[u8],
-    tenant: TenantId,
-) -> Result<((TableId, Level), &[u8]), ReadFault>
+pub fn table_line(text: &[u8], tenant: TenantId) -> Result<((TableId, Level), &[u8]), ReadFault>
     ensures { Gives (λ x. ((x.0.0.0, x.0.1), x.1.now)) result (table_line_at tenant.0 text.now) }
 {
     let rest = word(text, b"table ")?;
@@ -79,11 +76,7 @@ pub fn table_line(
 
 /// Reads `put T N KEY VALUE`.
 #[tactic(auto, unfolding(crate::specs::Lines::put_line_at))]
-pub fn put_line(
-    alloc: Global,
-    text: &[u8],
-    tenant: TenantId,
-) -> Result<(Put, &[u8]), ReadFault>
+pub fn put_line(alloc: Global, text: &[u8], tenant: TenantId) -> Result<(Put, &[u8]), ReadFault>
     ensures { Gives (λ x. (put_parts x.0, x.1.now)) result (put_line_at tenant.0 text.now) }
 {
     let rest = word(text, b"put ")?;
@@ -108,7 +101,10 @@ pub fn extension(text: &[u8], tenant: TenantId) -> Result<(Program, &[u8]), Read
     let rest = word(rest, b" 1\n")?;
     let rest = word(rest, b"fn main() -> int { get(")?;
     let (table, rest) = number(rest, 0, u64::MAX)?;
-    let rest = word(rest, b", args()) { some s => { resp(s); } none => { } } return ")?;
+    let rest = word(
+        rest,
+        b", args()) { some s => { resp(s); } none => { } } return ",
+    )?;
     let (code, rest) = number(rest, 0, u64::MAX)?;
     let rest = word(rest, b"; }\n")?;
     Ok((Program { table, code }, rest))
@@ -116,11 +112,7 @@ pub fn extension(text: &[u8], tenant: TenantId) -> Result<(Program, &[u8]), Read
 
 /// Reads `begin 0 T C NO EXT BUDGET stay ARGS`.
 #[tactic(auto, unfolding(crate::specs::Lines::begin_line_at, crate::specs::Lines::call_at))]
-pub fn begin_line(
-    alloc: Global,
-    text: &[u8],
-    tenant: TenantId,
-) -> Result<(Call, &[u8]), ReadFault>
+pub fn begin_line(alloc: Global, text: &[u8], tenant: TenantId) -> Result<(Call, &[u8]), ReadFault>
     ensures { Gives (λ x. (x.0, x.1.now)) result (call_at tenant.0 text.now) }
 {
     let rest = word(text, b"begin 0 ")?;

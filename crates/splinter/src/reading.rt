@@ -69,3 +69,6 @@ pub fn read_script(alloc: Global, text: &[u8]) -> Result<Option<Script>, Memory>
         Err(ReadFault::Memory) => Err(Memory),
     }
 }
+
+#[cfg(test)]
+mod tests;
