@@ -1,5 +1,14 @@
+pub mod Loop
+pub mod Numbers
+pub mod Bytes
+pub mod Forms
+pub mod LineForms
+pub mod Spelling
+pub mod ScriptLaws
 pub mod Texts
 pub mod Turns
 pub mod Drained
 pub mod Sources
 pub mod Playing
+pub mod Refusing
+pub mod Lists

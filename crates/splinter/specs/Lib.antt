@@ -1,7 +1,11 @@
 pub mod Fields
 pub mod Script
+pub mod Reading
+pub mod ScriptLines
 pub mod Play
 pub mod Lines
 pub mod Steps
 pub mod Stepping
 pub mod Draining
+pub mod Running
+pub mod Words

@@ -1,0 +1,18 @@
+-- The two ways in which an input is refused: it is too long, or no script has it.
+use Rattle.splinter.proofs.Refusing.{told-refused, longer-none, whole-none}
+use Rattle.splinter.proofs.run.run_command.Goals as goal
+
+pub returns-in-Longer-clause-told : goal.returns-in-Longer-clause-told
+returns-in-Longer-clause-told g c =
+    told-refused (g.S.Source.left c.args.source.now) (g.S.Source.left c.read_input.new.source)
+    (g.K.Sink.held c.args.sink.now) (g.K.Sink.held c.refuse.new.sink) c.refuse.result
+    (longer-none (g.S.Source.left c.args.source.now) (g.S.Source.left c.read_input.new.source) c.in-Longer.ensures.told)
+    c.refuse.ensures.told
+
+pub returns-in-Ok-None-clause-told : goal.returns-in-Ok-None-clause-told
+returns-in-Ok-None-clause-told g c =
+    told-refused (g.S.Source.left c.args.source.now) (g.S.Source.left c.read_input.new.source)
+    (g.K.Sink.held c.args.sink.now) (g.K.Sink.held c.refuse-in-Ok-None.new.sink) c.refuse-in-Ok-None.result
+    (whole-none (g.S.Source.left c.args.source.now) (g.S.Source.left c.read_input.new.source) c.in-Whole.input.items
+    c.in-Whole.ensures.told (rw (← c.as_slice.ensures.value) (rw c.in-Ok-None.field-0-is at c.in-Ok-None.ensures)))
+    c.refuse-in-Ok-None.ensures.told

@@ -1,0 +1,46 @@
+//! The top call: it takes the program's words, and runs the command that they name.
+
+ghost use Rattle.std.specs.Prelude.{◌≡◌, ◌↔◌, ◌≤◌, IsTrue, IfSome};
+ghost use Rattle.sp_outside.specs.Faults.{FaultCounted};
+ghost use Rattle.splinter.specs.Running.{Runs};
+ghost use Rattle.splinter.specs.Words.{AreRun};
+
+use crate::run::run_command;
+use crate::status::Status;
+use sp_outside::{Sink, Source};
+use std::alloc::Global;
+
+/// Runs the command that the words name, which is `run` alone.
+pub fn splinter<R, S: Source, K: Sink>(
+    _rt: &R,
+    alloc: Global,
+    words: &[String],
+    source: &mut S,
+    sink: &mut K,
+) -> Status
+    // The words are no command.
+    ensures usage { result ≡ Status.Usage ↔ (AreRun words.now → ⊥) }
+    ensures untouched { result ≡ Status.Usage → (source.new ≡ source.old) × (sink.new ≡ sink.old) }
+    // What is written, where source and sink tell their content.
+    ensures told { AreRun words.now → IfSome (S.left source.old) (λ input. IfSome (K.held sink.old) (λ held.
+        Runs result input held (S.left source.new) (K.held sink.new))) }
+    // Why it stopped. Where no fault was counted a command ends Ok or Script, or for want of memory.
+    ensures read_fault { result ≡ Status.ReadFault → FaultCounted (S.faults source.old) (S.faults source.new) }
+    ensures write_fault { result ≡ Status.WriteFault → FaultCounted (K.faults sink.old) (K.faults sink.new) }
+{
+    if are_run(words) {
+        run_command(alloc, source, sink)
+    } else {
+        Status::Usage
+    }
+}
+
+/// Whether the words are the one word `run`.
+fn are_run(words: &[String]) -> bool
+    ensures { IsTrue result ↔ AreRun words.now }
+{
+    match words {
+        [word] => word.as_str() == "run",
+        _ => false,
+    }
+}
