@@ -12,6 +12,8 @@ mod run;
 mod script;
 mod script_lines;
 mod status;
+#[cfg(test)]
+mod tests;
 mod text;
 mod top;
 mod turn;
