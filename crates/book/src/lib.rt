@@ -29,3 +29,6 @@ pub const MOST_ENTRIES: u64 = 1_048_576;
 
 /// The most bytes that a journal may take, counted as `entry_size` counts them.
 pub const MOST_BYTES: u64 = 268_435_456;
+
+#[cfg(test)]
+mod tests;

@@ -10,7 +10,7 @@ use Rattle.splinter.specs.declared.live.Live.{Live}
 use Rattle.splinter.specs.declared.turn.Step.{Step}
 use Rattle.splinter.specs.declared.turn.Step.TheVariants as step
 use Rattle.splinter.specs.Draining.{DrainedTo}
-use Rattle.splinter.specs.Play.{Turned, GoesOn, Ended, turn_of, Drains, last_turn, more_turns, in_drain}
+use Rattle.splinter.specs.Play.{Ended, turn_of, Drains, last_turn, more_turns, in_drain}
 use Rattle.splinter.specs.Stepping.{StepIs}
 
 -- the turn that ends the call is the last

@@ -1,7 +1,6 @@
 -- A script's events, one after another.
-use Rattle.std.specs.Prelude.{◌⊎◌, nat_lt, map, if◌then◌else◌}
-use Rattle.std.proofs.Common.{◌≡◌, ◌<◌, ◌≤◌, ℕ, ◌+◌, Bool, true, false, List, [], ◌∷◌, ◌++◌, length, refl, ap, sym, ◌∙◌, subst, inl, inr, append_assoc}
-use Rattle.sp_base.specs.declared.calls.Call.{Call}
+use Rattle.std.specs.Prelude.{nat_lt, map, if◌then◌else◌}
+use Rattle.std.proofs.Common.{◌≡◌, ◌<◌, ◌≤◌, ◌+◌, Bool, true, false, List, [], ◌∷◌, ◌++◌, length, refl, ap, sym, ◌∙◌, subst, inl, inr, append_assoc}
 use Rattle.sp_base.specs.declared.numbers.TenantId.{TenantId}
 use Rattle.ext_mean.specs.declared.tree.Program.{Program}
 use Rattle.ext_mean.specs.declared.run.Run.{Run}
@@ -22,8 +21,8 @@ use Rattle.splinter.specs.declared.line.Prefix.TheVariants.{At}
 use Rattle.splinter.specs.declared.line.Said.TheVariants as said
 use Rattle.splinter.specs.declared.live.Live.{Live}
 use Rattle.splinter.specs.declared.script.Script.{Script}
-use Rattle.splinter.specs.Draining.{PutGives, InstallGives, BeginGives, TellsMissing, QueuesAndDrains, DrainedTo}
-use Rattle.splinter.specs.Play.{Turned, GoesOn, Ended, turned, turn_of, quantum, Drains, last_turn, more_turns, empty_book, put_book, ext_book, ext_entry, put_entry, grants_of, first_answers, ext_count, begun, in_drain, Plays, Missing, Queued, EndsAtOnce, RunsInDrain, of_call, put_said, put_answered, install_said, install_answered}
+use Rattle.splinter.specs.Draining.{PutGives, InstallGives, BeginGives, TellsMissing}
+use Rattle.splinter.specs.Play.{Turned, GoesOn, Ended, turned, quantum, Drains, last_turn, more_turns, empty_book, put_book, ext_book, ext_entry, put_entry, grants_of, first_answers, begun, in_drain, Plays, Missing, Queued, of_call, put_said, put_answered, install_answered}
 
 commit-grants : (answer : Commit) (book : BookValue) (entry : Entry) → (after_commit answer book entry).grants ≡ book.grants
 commit-grants (commit.Committed n outcome) book entry = refl

@@ -1,10 +1,10 @@
 -- An input that is no script is refused by its one line.
-use Rattle.std.specs.Prelude.{IfSome, MatchOption}
-use Rattle.std.proofs.Common.{◌≡◌, ◌<◌, ℕ, ◌+◌, List, length, drop, Option, Some, None, sym, refl, subst, inl, inr, arith}
+use Rattle.std.specs.Prelude.{IfSome}
+use Rattle.std.proofs.Common.{ℕ, List, Option, Some, None, sym, refl, subst, inl, inr, arith}
 use Rattle.sp_outside.specs.Reading.{IsLongerInput, IsWholeInput}
 use Rattle.splinter.specs.declared.status.Status.{Status}
 use Rattle.splinter.specs.declared.status.Status.TheVariants as status
-use Rattle.splinter.specs.Running.{Runs, IsNoScript, IsInputOf, WritesText, refusal, most_script}
+use Rattle.splinter.specs.Running.{Runs, IsNoScript, WritesText, refusal, most_script}
 
 refused : (result : Status) (input held : List ℕ) (left after : Option (List ℕ)) → IsNoScript input
     → WritesText result status.Script held refusal after → Runs result input held left after

@@ -5,7 +5,6 @@ use Rattle.sp_base.specs.declared.numbers.TableId.{TableId}
 use Rattle.sp_base.specs.declared.numbers.TenantId.{TenantId}
 use Rattle.ext_mean.specs.declared.tree.Program.{Program}
 use Rattle.ext_mean.specs.Text.{text_of}
-use Rattle.book.specs.declared.entry.Entry.{Entry}
 use Rattle.book.specs.declared.entry.Entry.TheVariants.{Put, Install}
 use Rattle.book.specs.Folds.{texts_of}
 use Rattle.book.specs.GrantsList.{RightsList, rights_of}

@@ -1,5 +1,4 @@
 -- The text spells the program, and is short.
-use Rattle.std.proofs.Common.{◌≤◌, length, rules}
 use Rattle.splinter.proofs.Sources.{source-short}
 use Rattle.splinter.proofs.play.install.Goals as goal
 

@@ -3,8 +3,6 @@ use Rattle.std.proofs.Common.{◌≡◌, List, [], ◌∷◌, ◌++◌, ap, subs
 use Rattle.book.specs.GrantsList.{GrantsList}
 use Rattle.book.specs.Verdict.{BookValue}
 use Rattle.splinter.specs.declared.line.Answer.{Answer}
-use Rattle.splinter.specs.declared.line.Line.{Line}
-use Rattle.splinter.specs.declared.line.Prefix.TheVariants.{At}
 use Rattle.splinter.specs.Draining.{PutGives}
 use Rattle.splinter.specs.Play.{empty_book}
 use Rattle.splinter.proofs.Playing.{plays-script}

@@ -1,5 +1,5 @@
 -- One word, and it is `run`.
-use Rattle.std.proofs.Common.{[], ◌∷◌, sym, codes}
+use Rattle.std.proofs.Common.{codes}
 use Rattle.std.specs.Prelude.{string_bytes}
 use Rattle.splinter.proofs.Lists.{one-item, only-text}
 use Rattle.splinter.proofs.top.are_run.Goals as goal
