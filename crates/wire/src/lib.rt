@@ -1,0 +1,14 @@
+//! The messages between clients and server, and their one spelling as bytes.
+#![tactic(auto)]
+
+mod answers;
+mod faults;
+mod fields;
+mod items;
+mod numbers;
+mod requests;
+
+pub use answers::{Answer, FetchAnswer, InstallAnswer, PutAnswer, TextAnswer};
+pub use faults::WireFault;
+pub use items::{Item, Items};
+pub use requests::{Calls, Request};
