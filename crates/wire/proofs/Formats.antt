@@ -224,3 +224,29 @@ repeated_reads {C = C} {p = p} {spell = spell} {F = F} r (suc n) =
     as_value (λ xs. flat_map spell xs) (λ xs. (length xs ≡ suc n) × AllByRecursion F xs)
       (bind_reads (λ first. made (λ others. first ∷ others) (repeated p n)) r (λ x f. made_reads (λ others. x ∷ others) (repeated_reads r n)))
       (one_more spell F n) (λ z f. ((ap suc f.1.0, (f.0, f.1.1)), flat_map-cons spell z.0 z.1))
+
+-- ---- formats, with the values that they are made of
+
+pub record Format (C : Type 0) : Type 1 where
+  pub Source : Type 0
+  pub reader : Reader C
+  pub make : Source → C
+  pub spell : Source → List ℕ
+  pub Fits : Source → Type 0
+  pub reads : Reads reader make spell Fits
+
+abbrev pub format_of : {A C : Type 0} {R : Reader C} {make : A → C} {spell : A → List ℕ} {F : A → Type 0} → Reads R make spell F → Format C
+format_of {A = A} {R = R} {make = make} {spell = spell} {F = F} r =
+    record { Source = A; reader = R; make = make; spell = spell; Fits = F; reads = r }
+
+-- a value is made so, with this spelling
+abbrev pub Shows : {C : Type 0} → Format C → (C → List ℕ) → C → Type 0
+Shows f spell c = (x : f.Source) × (f.make x ≡ c) × f.Fits x × (f.spell x ≡ spell c)
+
+-- what is made of a source fits, with the source's spelling
+abbrev pub Makes : {C : Type 0} (f : Format C) → (C → List ℕ) → (C → Type 0) → f.Source → Type 0
+Makes f spell F x = F (f.make x) × (spell (f.make x) ≡ f.spell x)
+
+pub as_format : {C : Type 0} (f : Format C) (spell : C → List ℕ) (F : C → Type 0) →
+    ((c : C) → F c → Shows f spell c) → ((x : f.Source) → f.Fits x → Makes f spell F x) → Reads f.reader (λ c. c) spell F
+as_format f spell F to from = as_value spell F f.reads to from

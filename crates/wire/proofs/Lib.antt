@@ -1,2 +1,4 @@
 pub mod Formats
 pub mod Choices
+pub mod Digits
+pub mod Parts

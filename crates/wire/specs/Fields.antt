@@ -10,6 +10,9 @@ use Rattle.sp_base.specs.declared.reads.ReadItem.{ReadItem}
 use Rattle.sp_base.specs.declared.writes.Change.{Change}
 use Rattle.sp_base.specs.declared.writes.Change.TheVariants as changes
 use Rattle.sp_base.specs.declared.writes.Write.{Write}
+use Rattle.sp_base.specs.declared.numbers.TableId.{TableId}
+use Rattle.sp_base.specs.declared.rights.Level.{Level}
+use Rattle.sp_base.specs.declared.rights.Level.TheVariants as levels
 use Rattle.wire.specs.Readers.{Reader, bind, made, done, tagged, arm, no_arm, repeated}
 
 -- ---- numbers
@@ -82,11 +85,14 @@ abbrev pub change_of : Option (List ℕ) → Change
 change_of None = changes.Del
 change_of (Some value) = changes.Put value
 
+unfoldable pub change_at : Reader Change
+change_at bytes = made change_of opt_at bytes
+
 unfoldable pub write_at : Reader Write
 write_at bytes =
     bind (number_at w32) (λ table.
     bind key_at (λ key.
-    made (λ value. record { table = record { 0 = table }; key = key; change = change_of value }) opt_at)) bytes
+    made (λ change. record { table = record { 0 = table }; key = key; change = change }) change_at)) bytes
 
 unfoldable pub read_at : Reader ReadItem
 read_at bytes =
@@ -115,3 +121,20 @@ reads_at bytes = bind (u16_in 0 65535) (repeated read_at) bytes
 
 unfoldable pub calls_at : Reader (List Asked)
 calls_at bytes = bind (u16_in 1 64) (repeated asked_at) bytes
+
+-- ---- rights
+
+abbrev pub level_of_number : ℕ → Level
+level_of_number (suc (suc zero)) = levels.Write
+level_of_number _ = levels.Read
+
+-- n rights, whose tables strictly increase from the least: each leaves room for those behind it
+unfoldable pub tables_from : ℕ → ℕ → Reader (List (TableId × Level))
+tables_from zero least bytes = Ok ([], bytes)
+tables_from (suc n) least bytes =
+    bind (u32_in least (4294967295 - n)) (λ table.
+    bind (byte_in 1 2) (λ level.
+    made (λ others. (record { 0 = table }, level_of_number level) ∷ others) (tables_from n (table + 1)))) bytes
+
+unfoldable pub rights_at : Reader (List (TableId × Level))
+rights_at bytes = bind (byte_in 0 64) (λ n. tables_from n 0) bytes

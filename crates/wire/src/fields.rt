@@ -1,6 +1,6 @@
 ghost use Rattle.std.specs.Prelude.{◌≡◌, ◌≤◌};
 ghost use Rattle.wire.specs.Readers.{Gives};
-ghost use Rattle.wire.specs.Fields.{bytes_at, key_at, long_at, flag_at, opt_at, trap_of, done_at, outcome_at, write_at, read_at, asked_at};
+ghost use Rattle.wire.specs.Fields.{bytes_at, key_at, long_at, flag_at, opt_at, trap_of, done_at, outcome_at, change_at, write_at, read_at, asked_at};
 
 use crate::faults::ReadFault;
 use crate::numbers::{byte, u16_from, u32_any, u64_any};
@@ -103,17 +103,24 @@ pub fn outcome(alloc: Global, bytes: &[u8]) -> Result<(Outcome, &[u8]), ReadFaul
     }
 }
 
+#[tactic(auto, unfolding(crate::specs::Fields::change_at))]
+fn change(alloc: Global, bytes: &[u8]) -> Result<(Change, &[u8]), ReadFault>
+    ensures { Gives (λ x. (x.0, x.1.now)) result (change_at bytes.now) }
+{
+    let (value, rest) = optional(alloc, bytes)?;
+    match value {
+        None => Ok((Change::Del, rest)),
+        Some(value) => Ok((Change::Put(value), rest)),
+    }
+}
+
 #[tactic(auto, unfolding(crate::specs::Fields::write_at))]
 pub fn write(alloc: Global, bytes: &[u8]) -> Result<(Write, &[u8]), ReadFault>
     ensures { Gives (λ x. (x.0, x.1.now)) result (write_at bytes.now) }
 {
     let (table, rest) = u32_any(bytes)?;
     let (key, rest) = key(alloc, rest)?;
-    let (value, rest) = optional(alloc, rest)?;
-    let change = match value {
-        None => Change::Del,
-        Some(value) => Change::Put(value),
-    };
+    let (change, rest) = change(alloc, rest)?;
     let table = TableId(table);
     Ok((Write { table, key, change }, rest))
 }
