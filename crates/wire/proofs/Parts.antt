@@ -85,3 +85,97 @@ opt_from (inr (inr x)) f = absurd x
 pub opt_reads : Reads opt_at (λ o. o) opt FitsOpt
 unfolding opt_at
 opt_reads = as_format opt_format opt FitsOpt opt_to opt_from
+
+trap_to : (t : Trap) → (n : ℕ) × (trap_of n ≡ t) × IsIn 1 5 n × (trap_number t ≡ n)
+trap_to traps.Range = (1, refl, (omega arith, omega arith), refl)
+trap_to traps.Divide = (2, refl, (omega arith, omega arith), refl)
+trap_to traps.Size = (3, refl, (omega arith, omega arith), refl)
+trap_to traps.Denied = (4, refl, (omega arith, omega arith), refl)
+trap_to traps.Width = (5, refl, (omega arith, omega arith), refl)
+
+trap_from : (n : ℕ) → IsIn 1 5 n → trap_number (trap_of n) ≡ n
+trap_from zero f = absurd (omega (arith, f.0))
+trap_from (suc zero) f = refl
+trap_from (suc (suc zero)) f = refl
+trap_from (suc (suc (suc zero))) f = refl
+trap_from (suc (suc (suc (suc zero)))) f = refl
+trap_from (suc (suc (suc (suc (suc zero))))) f = refl
+trap_from (suc (suc (suc (suc (suc (suc n)))))) f = absurd (omega (arith, f.1))
+
+abbrev done_format : Format Outcome
+done_format = format_of (bind_reads (λ code. made (λ reply. Done (record { code = code; bytes = reply })) (long_at 0 4096)) u64_any
+    (λ code f. made_reads (λ reply. Done (record { code = code; bytes = reply })) value_reads))
+
+done_reader : Reads done_at done_format.make done_format.spell done_format.Fits
+unfolding done_at
+done_reader = done_format.reads
+
+abbrev outcome_format : Format Outcome
+outcome_format = format_of (tagged_reads (inr (inr (inl tt))) tt
+    (arms 0 (omega arith) done_reader
+    (arms 1 (omega arith) (made_reads (λ n. Trapped (trap_of n)) (byte_reads 1 5 (omega arith)))
+    (arms 2 (omega arith) (done_reads Killed) (no_arms 3)))))
+
+outcome_to : (o : Outcome) → FitsOutcome o → Shows outcome_format outcome o
+outcome_to (Done reply) f = (inl (reply.code, reply.bytes), refl, f, refl)
+outcome_to (Trapped trap) f =
+    let t = trap_to trap in
+    (inr (inl t.0), ap (λ (x : Trap). Trapped x) t.1, t.2, ap (λ (n : ℕ). 1 ∷ n ∷ []) (sym t.3))
+outcome_to Killed f = (inr (inr (inl tt)), refl, tt, refl)
+
+outcome_from : (x : (ℕ × List ℕ) ⊎ (ℕ ⊎ (Unit {0} ⊎ ⊥))) → outcome_format.Fits x → Makes outcome_format outcome FitsOutcome x
+outcome_from (inl x) f = (f, refl)
+outcome_from (inr (inl n)) f = (tt, ap (λ (m : ℕ). 1 ∷ m ∷ []) (trap_from n f))
+outcome_from (inr (inr (inl u))) f = (tt, refl)
+outcome_from (inr (inr (inr x))) f = absurd x
+
+pub outcome_reads : Reads outcome_at (λ o. o) outcome FitsOutcome
+unfolding outcome_at
+outcome_reads = as_format outcome_format outcome FitsOutcome outcome_to outcome_from
+
+-- ---- records
+
+abbrev change_format : Format Change
+change_format = format_of (made_reads change_of opt_reads)
+
+change_to : (c : Change) → FitsChange c → Shows change_format change c
+change_to changes.Del f = (None, refl, tt, refl)
+change_to (changes.Put v) f = (Some v, refl, f, refl)
+
+change_from : (o : Option (List ℕ)) → FitsOpt o → Makes change_format change FitsChange o
+change_from None f = (tt, refl)
+change_from (Some v) f = (f, refl)
+
+pub change_reads : Reads change_at (λ c. c) change FitsChange
+unfolding change_at
+change_reads = as_format change_format change FitsChange change_to change_from
+
+abbrev made_write : ℕ → List ℕ → Change → Write
+made_write table place changed = record { table = record { 0 = table }; key = place; change = changed }
+
+abbrev write_format : Format Write
+write_format = format_of (bind_reads (λ table. bind key_at (λ place. made (made_write table place) change_at)) u32_any
+    (λ table f. bind_reads (λ place. made (made_write table place) change_at) key_reads
+    (λ place g. made_reads (made_write table place) change_reads)))
+
+pub write_reads : Reads write_at (λ w. w) write FitsWrite
+unfolding write_at
+write_reads = as_format write_format write FitsWrite
+    (λ w f. ((w.table.0, (w.key, w.change)), refl, (f.table, (f.key, f.change)), refl))
+    (λ x f. (record { table = f.0; key = f.1.0; change = f.1.1 }, refl))
+
+abbrev made_read : ℕ → List ℕ → ℕ → ℕ → Option (List ℕ) → ReadItem
+made_read table place version at value = record { table = record { 0 = table }; key = place; version = version; read_at = at; value = value }
+
+abbrev read_format : Format ReadItem
+read_format = format_of (bind_reads (λ table. bind key_at (λ place. bind (number_at w64) (λ version. bind (number_at w64) (λ at. made (made_read table place version at) opt_at)))) u32_any
+    (λ table f. bind_reads (λ place. bind (number_at w64) (λ version. bind (number_at w64) (λ at. made (made_read table place version at) opt_at))) key_reads
+    (λ place g. bind_reads (λ version. bind (number_at w64) (λ at. made (made_read table place version at) opt_at)) u64_any
+    (λ version h. bind_reads (λ at. made (made_read table place version at) opt_at) u64_any
+    (λ at i. made_reads (made_read table place version at) opt_reads)))))
+
+pub read_reads : Reads read_at (λ r. r) read FitsRead
+unfolding read_at
+read_reads = as_format read_format read FitsRead
+    (λ r f. ((r.table.0, (r.key, (r.version, (r.read_at, r.value)))), refl, (f.table, (f.key, (f.version, (f.read_at, f.value)))), refl))
+    (λ x f. (record { table = f.0; key = f.1.0; version = f.1.1.0; read_at = f.1.1.1.0; value = f.1.1.1.1 }, refl))
