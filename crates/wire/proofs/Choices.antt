@@ -17,12 +17,12 @@ EitherFits F G (inr y) = G y
 -- what is read behind each tag, from the tag `least` on
 pub record Arms {A C : Type 0} (choose : ℕ → Reader C) (make : A → C) (tag : A → ℕ) (spell : A → List ℕ) (F : A → Type 0) (least : ℕ) : Type 0 where
   pub found : (b : ℕ) (bytes : List ℕ) (c : C) (rest : List ℕ) → IsBytes bytes → choose b bytes ≡ Ok (c, rest) →
-    (x : A) × (c ≡ make x) × F x × (tag x ≡ b) × (bytes ≡ spell x ++ rest)
+      (x : A) × (c ≡ make x) × F x × (tag x ≡ b) × (bytes ≡ spell x ++ rest)
   pub again : (x : A) (rest : List ℕ) → F x → choose (tag x) (spell x ++ rest) ≡ Ok (make x, rest)
   pub begins : (b : ℕ) (bytes : List ℕ) (left : ℕ) → IsBytes bytes → choose b bytes ≡ Err left →
-    Begins spell (λ x. F x × (tag x ≡ b)) bytes left ⊎ (length bytes + 1 ≡ left)
+      Begins spell (λ x. F x × (tag x ≡ b)) bytes left ⊎ (length bytes + 1 ≡ left)
   pub furthest : (b : ℕ) (bytes : List ℕ) (left : ℕ) → IsBytes bytes → choose b bytes ≡ Err left →
-    Furthest spell (λ x. F x × (tag x ≡ b)) bytes left
+      Furthest spell (λ x. F x × (tag x ≡ b)) bytes left
   pub above : (x : A) → F x → least ≤ tag x
 
 abbrev never : {C : Type 0} → ⊥ → C
@@ -84,21 +84,21 @@ pub arms : {A B C : Type 0} {p : Reader C} {makeP : A → C} {spellP : A → Lis
     Arms {A = A ⊎ B} (arm k p next) (either makeP make) (either (λ x. k) tag) (either spellP spell) (EitherFits FP F) k
 arms {p = p} {FP = FP} {next = next} k lt r s = record {
   found = λ b bytes c rest fits e.
-    elim (eqb_tells b k) [
-      | inl t ↦ let f = r.found bytes c rest fits (picks (eqb b k) (p bytes) (next b bytes) _ t.0 e) in (inl f.0, f.1, f.2, sym t.1, f.3)
-      | inr t ↦ let f = s.found b bytes c rest fits (skips (eqb b k) (p bytes) (next b bytes) _ t.0 e) in (inr f.0, f.1, f.2, f.3, f.4)
-    ];
+      elim (eqb_tells b k) [
+        | inl t ↦ let f = r.found bytes c rest fits (picks (eqb b k) (p bytes) (next b bytes) _ t.0 e) in (inl f.0, f.1, f.2, sym t.1, f.3)
+        | inr t ↦ let f = s.found b bytes c rest fits (skips (eqb b k) (p bytes) (next b bytes) _ t.0 e) in (inr f.0, f.1, f.2, f.3, f.4)
+      ];
   again = arms_again k lt r s;
   begins = λ b bytes left fits e.
-    elim (eqb_tells b k) [
-      | inl t ↦
-        let g = r.begins bytes left fits (picks (eqb b k) (p bytes) (next b bytes) _ t.0 e) in
-        inl (record { value = inl g.value; fits = (g.fits, sym t.1); front = g.front; back = g.back; more = g.more; parts = g.parts; last = g.last; spelled = g.spelled })
-      | inr t ↦ elim (s.begins b bytes left fits (skips (eqb b k) (p bytes) (next b bytes) _ t.0 e)) [
+      elim (eqb_tells b k) [
+        | inl t ↦
+            let g = r.begins bytes left fits (picks (eqb b k) (p bytes) (next b bytes) _ t.0 e) in
+            inl (record { value = inl g.value; fits = (g.fits, sym t.1); front = g.front; back = g.back; more = g.more; parts = g.parts; last = g.last; spelled = g.spelled })
+        | inr t ↦ elim (s.begins b bytes left fits (skips (eqb b k) (p bytes) (next b bytes) _ t.0 e)) [
           | inl g ↦ inl (record { value = inr g.value; fits = g.fits; front = g.front; back = g.back; more = g.more; parts = g.parts; last = g.last; spelled = g.spelled })
           | inr h ↦ inr h
         ]
-    ];
+      ];
   furthest = arms_furthest k lt r s;
   above = arms_above FP k lt s.above;
 }
@@ -120,8 +120,16 @@ tagged_begins {tag = tag} {spell = spell} x f s [] left fits e =
     record { value = x; fits = f; front = []; back = []; more = tag x ∷ spell x; parts = refl; last = cc; spelled = refl }
 tagged_begins {tag = tag} {spell = spell} x f s (b ∷ bytes) left fits e =
     elim (s.begins b bytes left (λ i. fits (suc i)) e) [
-      | inl g ↦ record { value = g.value; fits = g.fits.0; front = b ∷ g.front; back = g.back; more = g.more; parts = ap (λ (t : List ℕ). b ∷ t) g.parts; last = g.last;
-          spelled = ap (λ (n : ℕ). n ∷ spell g.value) g.fits.1 ∙ ap (λ (t : List ℕ). b ∷ t) g.spelled }
+      | inl g ↦ record {
+        value = g.value;
+        fits = g.fits.0;
+        front = b ∷ g.front;
+        back = g.back;
+        more = g.more;
+        parts = ap (λ (t : List ℕ). b ∷ t) g.parts;
+        last = g.last;
+        spelled = ap (λ (n : ℕ). n ∷ spell g.value) g.fits.1 ∙ ap (λ (t : List ℕ). b ∷ t) g.spelled;
+      }
       | inr h ↦ record { value = x; fits = f; front = []; back = b ∷ bytes; more = tag x ∷ spell x; parts = refl; last = omega (arith, h); spelled = refl }
     ]
 

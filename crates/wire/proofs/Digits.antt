@@ -27,9 +27,9 @@ tested least most b rest =
     elim (cases_lt b least) [
       | inl lt ↦ inl (lt, rw (lt-ltb b least lt) refl)
       | inr ge ↦ elim (cases_lt most b) [
-          | inl lt ↦ inr (inl (lt, rw (le-ltb b least ge, lt-ltb most b lt) refl))
-          | inr le ↦ inr (inr ((ge, le), rw (le-ltb b least ge, le-ltb most b le) refl))
-        ]
+        | inl lt ↦ inr (inl (lt, rw (le-ltb b least ge, lt-ltb most b lt) refl))
+        | inr le ↦ inr (inr ((ge, le), rw (le-ltb b least ge, le-ltb most b le) refl))
+      ]
     ]
 
 byte_found : (least most : ℕ) (bytes : List ℕ) (c : ℕ) (rest : List ℕ) → byte_in least most bytes ≡ Ok (c, rest) →
@@ -39,11 +39,11 @@ byte_found least most (b ∷ bytes) c rest e =
     elim (tested least most b bytes) [
       | inl t ↦ ok_err (byte_in least most (b ∷ bytes)) (c, rest) (length bytes + 1) e t.1
       | inr u ↦ elim u [
-          | inl t ↦ ok_err (byte_in least most (b ∷ bytes)) (c, rest) (length bytes + 1) e t.1
-          | inr t ↦
+        | inl t ↦ ok_err (byte_in least most (b ∷ bytes)) (c, rest) (length bytes + 1) e t.1
+        | inr t ↦
             let same = ok_is (b, bytes) (c, rest) (sym t.1 ∙ e) in
             (b, sym (ap (λ q. q.0) same), t.0, ap (λ (r : List ℕ). b ∷ r) (ap (λ q. q.1) same))
-        ]
+      ]
     ]
 
 byte_again : (least most n : ℕ) (rest : List ℕ) → IsIn least most n → byte_in least most (n ∷ rest) ≡ Ok (n, rest)
@@ -55,13 +55,13 @@ byte_begins least most le [] left e =
     record { value = least; fits = (omega arith, le); front = []; back = []; more = least ∷ []; parts = refl; last = cc; spelled = refl }
 byte_begins least most le (b ∷ bytes) left e =
     let last : length bytes + 1 ≡ left =
-        elim (tested least most b bytes) [
-          | inl t ↦ err_is _ _ (sym t.1 ∙ e)
-          | inr u ↦ elim u [
-              | inl t ↦ err_is _ _ (sym t.1 ∙ e)
-              | inr t ↦ ok_err (byte_in least most (b ∷ bytes)) (b, bytes) left t.1 e
-            ]
-        ] in
+    elim (tested least most b bytes) [
+      | inl t ↦ err_is _ _ (sym t.1 ∙ e)
+      | inr u ↦ elim u [
+        | inl t ↦ err_is _ _ (sym t.1 ∙ e)
+        | inr t ↦ ok_err (byte_in least most (b ∷ bytes)) (b, bytes) left t.1 e
+      ]
+    ] in
     record { value = least; fits = (omega arith, le); front = []; back = b ∷ bytes; more = least ∷ []; parts = refl; last = omega (arith, last); spelled = refl }
 
 byte_furthest : (least most : ℕ) (bytes : List ℕ) (left : ℕ) → byte_in least most bytes ≡ Err left →
@@ -72,9 +72,9 @@ byte_furthest least most (b ∷ bytes) left e n [] back more f parts spelled =
     elim (tested least most b bytes) [
       | inl t ↦ omega (arith, whole, err_is _ _ (sym t.1 ∙ e))
       | inr u ↦ elim u [
-          | inl t ↦ omega (arith, whole, err_is _ _ (sym t.1 ∙ e))
-          | inr t ↦ ok_err (byte_in least most (b ∷ bytes)) (b, bytes) left t.1 e
-        ]
+        | inl t ↦ omega (arith, whole, err_is _ _ (sym t.1 ∙ e))
+        | inr t ↦ ok_err (byte_in least most (b ∷ bytes)) (b, bytes) left t.1 e
+      ]
     ]
 byte_furthest least most (b ∷ bytes) left e n (y ∷ front) back more f parts spelled =
     let first : b ≡ y = cc in
@@ -158,65 +158,84 @@ pub bytes_reads : (n : ℕ) → Reads (bytes_at n) (λ bs. bs) (λ bs. bs) (λ b
 bytes_reads n = record {
   some = (replicate n 0, length-replicate {A = ℕ} n 0);
   found = λ bytes c rest fits e.
-    elim (short_or {A = List ℕ × List ℕ} bytes n (take n bytes, drop n bytes)) [
-      | inl t ↦ ok_err (bytes_at n bytes) (c, rest) 0 e t.1
-      | inr t ↦
-        let same = ok_is (take n bytes, drop n bytes) (c, rest) (sym t.1 ∙ e) in
-        let front = ap (λ q. q.0) same in
-        let behind = ap (λ q. q.1) same in
-        (take n bytes, sym front, omega (arith, length-take n bytes, t.0), sym (take-append-drop n bytes) ∙ ap (λ (r : List ℕ). take n bytes ++ r) behind)
-    ];
+      elim (short_or {A = List ℕ × List ℕ} bytes n (take n bytes, drop n bytes)) [
+        | inl t ↦ ok_err (bytes_at n bytes) (c, rest) 0 e t.1
+        | inr t ↦
+            let same = ok_is (take n bytes, drop n bytes) (c, rest) (sym t.1 ∙ e) in
+            let front = ap (λ q. q.0) same in
+            let behind = ap (λ q. q.1) same in
+            (take n bytes, sym front, omega (arith, length-take n bytes, t.0), sym (take-append-drop n bytes) ∙ ap (λ (r : List ℕ). take n bytes ++ r) behind)
+      ];
   again = λ bs rest f. rw (le-ltb (length (bs ++ rest)) n (omega (arith, length-append bs rest, f)), take_at bs rest n f, drop_at bs rest n f) refl;
   begins = λ bytes left fits e.
-    elim (short_or {A = List ℕ × List ℕ} bytes n (take n bytes, drop n bytes)) [
-      | inl t ↦ record { value = bytes ++ replicate (n - length bytes) 0; fits = fill bytes n t.0; front = bytes; back = []; more = replicate (n - length bytes) 0;
-          parts = sym (append-nil bytes); last = err_is 0 left (sym t.1 ∙ e); spelled = refl }
-      | inr t ↦ ok_err (bytes_at n bytes) (take n bytes, drop n bytes) left t.1 e
-    ];
+      elim (short_or {A = List ℕ × List ℕ} bytes n (take n bytes, drop n bytes)) [
+        | inl t ↦ record {
+          value = bytes ++ replicate (n - length bytes) 0;
+          fits = fill bytes n t.0;
+          front = bytes;
+          back = [];
+          more = replicate (n - length bytes) 0;
+          parts = sym (append-nil bytes);
+          last = err_is 0 left (sym t.1 ∙ e);
+          spelled = refl;
+        }
+        | inr t ↦ ok_err (bytes_at n bytes) (take n bytes, drop n bytes) left t.1 e
+      ];
   furthest = λ bytes left fits e bs front back more f parts spelled.
-    elim (short_or {A = List ℕ × List ℕ} bytes n (take n bytes, drop n bytes)) [
-      | inl t ↦ let none : 0 ≡ left = err_is 0 left (sym t.1 ∙ e) in omega (arith, none)
-      | inr t ↦ ok_err (bytes_at n bytes) (take n bytes, drop n bytes) left t.1 e
-    ];
+      elim (short_or {A = List ℕ × List ℕ} bytes n (take n bytes, drop n bytes)) [
+        | inl t ↦ let none : 0 ≡ left = err_is 0 left (sym t.1 ∙ e) in omega (arith, none)
+        | inr t ↦ ok_err (bytes_at n bytes) (take n bytes, drop n bytes) left t.1 e
+      ];
 }
 
 pub number_reads : (w : Width) (limit : ℕ) → IsWide w limit → Reads (number_at w) (λ n. n) (λ n. to_be_bytes w n) (λ n. n < limit)
 number_reads w limit wide = record {
   some = (0, wide.some);
   found = λ bytes c rest fits e.
-    let k = byte_len w in
-    elim (short_or {A = ℕ × List ℕ} bytes k (from_be_bytes w (take k bytes), drop k bytes)) [
-      | inl t ↦ ok_err (number_at w bytes) (c, rest) 0 e t.1
-      | inr t ↦
-        let same = ok_is (from_be_bytes w (take k bytes), drop k bytes) (c, rest) (sym t.1 ∙ e) in
-        let front = ap (λ q. q.0) same in
-        let behind = ap (λ q. q.1) same in
-        let few : length (take k bytes) ≡ k = omega (arith, length-take k bytes, t.0) in
-        let these = IsBytes-take k bytes fits in
-        (from_be_bytes w (take k bytes), sym front, wide.below (take k bytes) these,
-          sym (take-append-drop k bytes) ∙ ap (λ (r : List ℕ). take k bytes ++ r) behind ∙ ap (λ (r : List ℕ). r ++ rest) (sym (wide.back (take k bytes) few these)))
-    ];
+      let k = byte_len w in
+      elim (short_or {A = ℕ × List ℕ} bytes k (from_be_bytes w (take k bytes), drop k bytes)) [
+        | inl t ↦ ok_err (number_at w bytes) (c, rest) 0 e t.1
+        | inr t ↦
+            let same = ok_is (from_be_bytes w (take k bytes), drop k bytes) (c, rest) (sym t.1 ∙ e) in
+            let front = ap (λ q. q.0) same in
+            let behind = ap (λ q. q.1) same in
+            let few : length (take k bytes) ≡ k = omega (arith, length-take k bytes, t.0) in
+            let these = IsBytes-take k bytes fits in (
+              from_be_bytes w (take k bytes),
+              sym front,
+              wide.below (take k bytes) these,
+              sym (take-append-drop k bytes) ∙ ap (λ (r : List ℕ). take k bytes ++ r) behind ∙ ap (λ (r : List ℕ). r ++ rest) (sym (wide.back (take k bytes) few these)),
+            )
+      ];
   again = λ n rest lt.
-    let k = byte_len w in
-    let len = wide.len n in
-    rw (le-ltb (length (to_be_bytes w n ++ rest)) k (omega (arith, length-append (to_be_bytes w n) rest, len)), take_at (to_be_bytes w n) rest k len, drop_at (to_be_bytes w n) rest k len, wide.again n lt) refl;
+      let k = byte_len w in
+      let len = wide.len n in
+      rw (le-ltb (length (to_be_bytes w n ++ rest)) k (omega (arith, length-append (to_be_bytes w n) rest, len)), take_at (to_be_bytes w n) rest k len, drop_at (to_be_bytes w n) rest k len, wide.again n lt) refl;
   begins = λ bytes left fits e.
-    let k = byte_len w in
-    elim (short_or {A = ℕ × List ℕ} bytes k (from_be_bytes w (take k bytes), drop k bytes)) [
-      | inl t ↦
-        let more = replicate (k - length bytes) 0 in
-        let whole = bytes ++ more in
-        let these : IsBytes whole = filled_bytes bytes (k - length bytes) fits in
-        record { value = from_be_bytes w whole; fits = wide.below whole these; front = bytes; back = []; more = more;
-          parts = sym (append-nil bytes); last = err_is 0 left (sym t.1 ∙ e); spelled = wide.back whole (fill bytes k t.0) these }
-      | inr t ↦ ok_err (number_at w bytes) (from_be_bytes w (take k bytes), drop k bytes) left t.1 e
-    ];
+      let k = byte_len w in
+      elim (short_or {A = ℕ × List ℕ} bytes k (from_be_bytes w (take k bytes), drop k bytes)) [
+        | inl t ↦
+            let more = replicate (k - length bytes) 0 in
+            let whole = bytes ++ more in
+            let these : IsBytes whole = filled_bytes bytes (k - length bytes) fits in
+            record {
+              value = from_be_bytes w whole;
+              fits = wide.below whole these;
+              front = bytes;
+              back = [];
+              more = more;
+              parts = sym (append-nil bytes);
+              last = err_is 0 left (sym t.1 ∙ e);
+              spelled = wide.back whole (fill bytes k t.0) these;
+            }
+        | inr t ↦ ok_err (number_at w bytes) (from_be_bytes w (take k bytes), drop k bytes) left t.1 e
+      ];
   furthest = λ bytes left fits e bs front back more f parts spelled.
-    let k = byte_len w in
-    elim (short_or {A = ℕ × List ℕ} bytes k (from_be_bytes w (take k bytes), drop k bytes)) [
-      | inl t ↦ let none : 0 ≡ left = err_is 0 left (sym t.1 ∙ e) in omega (arith, none)
-      | inr t ↦ ok_err (number_at w bytes) (from_be_bytes w (take k bytes), drop k bytes) left t.1 e
-    ];
+      let k = byte_len w in
+      elim (short_or {A = ℕ × List ℕ} bytes k (from_be_bytes w (take k bytes), drop k bytes)) [
+        | inl t ↦ let none : 0 ≡ left = err_is 0 left (sym t.1 ∙ e) in omega (arith, none)
+        | inr t ↦ ok_err (number_at w bytes) (from_be_bytes w (take k bytes), drop k bytes) left t.1 e
+      ];
 }
 
 -- ---- numbers from least to most
@@ -241,9 +260,12 @@ u16_format least most le = format_of (bind_reads (λ high. made (λ low. 256 * h
 
 u16_to : (least most : ℕ) (le : least ≤ most) → most < 65536 → (n : ℕ) → IsIn least most n → Shows (u16_format least most le) u16 n
 u16_to least most le lt n f =
-    let whole : 256 * (n / 256) + n % 256 ≡ n = omega arith in
-    ((n / 256, n % 256), whole, ((omega (arith, f.0), omega (arith, f.1)), (omega (arith, f.0), omega (arith, f.1))),
-     sym (u16_two (n / 256) (n % 256) (omega (arith, f.1)) (omega arith)) ∙ ap u16 whole)
+    let whole : 256 * (n / 256) + n % 256 ≡ n = omega arith in (
+      (n / 256, n % 256),
+      whole,
+      ((omega (arith, f.0), omega (arith, f.1)), (omega (arith, f.0), omega (arith, f.1))),
+      sym (u16_two (n / 256) (n % 256) (omega (arith, f.1)) (omega arith)) ∙ ap u16 whole,
+    )
 
 u16_from : (least most : ℕ) (le : least ≤ most) → most < 65536 → (x : ℕ × ℕ) →
     IsIn (least / 256) (most / 256) x.0 × IsIn (low_least 256 least x.0) (low_most 256 most x.0) x.1 → Makes (u16_format least most le) u16 (IsIn least most) x
@@ -268,13 +290,16 @@ abbrev u32_format : (least most : ℕ) → least ≤ most → most < 2 ^ 32 → 
 u32_format least most le lt = format_of (bind_reads (λ high. made (λ low. 65536 * high + low) (u16_in (low_least 65536 least high) (low_most 65536 most high)))
     (u16_reads (least / 65536) (most / 65536) (omega arith) (omega arith))
     (λ high f. made_reads (λ low. 65536 * high + low) (u16_reads (low_least 65536 least high) (low_most 65536 most high)
-        (low_le 65536 least most high (omega arith) le (omega (arith, f.1)) (omega (arith, f.0))) (omega arith))))
+    (low_le 65536 least most high (omega arith) le (omega (arith, f.1)) (omega (arith, f.0))) (omega arith))))
 
 u32_to : (least most : ℕ) (le : least ≤ most) (lt : most < 2 ^ 32) → (n : ℕ) → IsIn least most n → Shows (u32_format least most le lt) u32 n
 u32_to least most le lt n f =
-    let whole : 65536 * (n / 65536) + n % 65536 ≡ n = omega arith in
-    ((n / 65536, n % 65536), whole, ((omega (arith, f.0), omega (arith, f.1)), (omega (arith, f.0), omega (arith, f.1))),
-     sym (u32_two (n / 65536) (n % 65536) (omega (arith, f.1)) (omega arith)) ∙ ap u32 whole)
+    let whole : 65536 * (n / 65536) + n % 65536 ≡ n = omega arith in (
+      (n / 65536, n % 65536),
+      whole,
+      ((omega (arith, f.0), omega (arith, f.1)), (omega (arith, f.0), omega (arith, f.1))),
+      sym (u32_two (n / 65536) (n % 65536) (omega (arith, f.1)) (omega arith)) ∙ ap u32 whole,
+    )
 
 u32_from : (least most : ℕ) (le : least ≤ most) (lt : most < 2 ^ 32) → (x : ℕ × ℕ) →
     IsIn (least / 65536) (most / 65536) x.0 × IsIn (low_least 65536 least x.0) (low_most 65536 most x.0) x.1 → Makes (u32_format least most le lt) u32 (IsIn least most) x

@@ -82,10 +82,10 @@ not_past : {A C : Type 0} {R : Reader C} {make : A → C} {spell : A → List �
 not_past {spell = spell} r x y front back more rest fx fy begun e =
     elim (cuts front back (spell y) rest e) [
       | inl m ↦
-        let longer : spell x ≡ spell y ++ (m.0 ++ more) = begun ∙ ap (λ (t : List ℕ). t ++ more) m.1 ∙ append_assoc (spell y) m.0 more in
-        let none : m.0 ≡ [] = nothing m.0 more (no_longer r x y (m.0 ++ more) fx fy longer) in
-        let same : rest ≡ back = m.2 ∙ ap (λ (t : List ℕ). t ++ back) none in
-        omega (arith, ap (λ (t : List ℕ). length t) same)
+          let longer : spell x ≡ spell y ++ (m.0 ++ more) = begun ∙ ap (λ (t : List ℕ). t ++ more) m.1 ∙ append_assoc (spell y) m.0 more in
+          let none : m.0 ≡ [] = nothing m.0 more (no_longer r x y (m.0 ++ more) fx fy longer) in
+          let same : rest ≡ back = m.2 ∙ ap (λ (t : List ℕ). t ++ back) none in
+          omega (arith, ap (λ (t : List ℕ). length t) same)
       | inr m ↦ omega (arith, ap (λ (t : List ℕ). length t) m.2, length-append m.0 rest)
     ]
 
@@ -97,52 +97,67 @@ pub bind_reads : {A V B C : Type 0} (k : V → Reader C) {p : Reader V} {makeP :
 bind_reads {A = A} {V = V} {B = B} {C = C} k {p = p} {makeP = makeP} {spellP = spellP} {FP = FP} {make = make} {spell = spell} {F = F} r s = record {
   some = let x = r.some in let y = (s x.0 x.1).some in ((x.0, y.0), (x.1, y.1));
   found = λ bytes c rest fits e.
-    let a = bind_ok (p bytes) (λ v. k v.0 v.1) (c, rest) e in
-    let f = r.found bytes a.0.0 a.0.1 fits a.1 in
-    let behind : IsBytes a.0.1 = IsBytes-behind (spellP f.0) a.0.1 (subst IsBytes f.3 fits) in
-    let g = (s f.0 f.2).found a.0.1 c rest behind (subst (λ (v : V). k v a.0.1 ≡ Ok (c, rest)) f.1 a.2) in
-    ((f.0, g.0), g.1, (f.2, g.2), f.3 ∙ ap (λ (t : List ℕ). spellP f.0 ++ t) g.3 ∙ sym (append_assoc (spellP f.0) (spell f.0 g.0) rest));
+      let a = bind_ok (p bytes) (λ v. k v.0 v.1) (c, rest) e in
+      let f = r.found bytes a.0.0 a.0.1 fits a.1 in
+      let behind : IsBytes a.0.1 = IsBytes-behind (spellP f.0) a.0.1 (subst IsBytes f.3 fits) in
+      let g = (s f.0 f.2).found a.0.1 c rest behind (subst (λ (v : V). k v a.0.1 ≡ Ok (c, rest)) f.1 a.2) in
+      ((f.0, g.0), g.1, (f.2, g.2), f.3 ∙ ap (λ (t : List ℕ). spellP f.0 ++ t) g.3 ∙ sym (append_assoc (spellP f.0) (spell f.0 g.0) rest));
   again = λ z rest f.
-    ap (bind p k) (append_assoc (spellP z.0) (spell z.0 z.1) rest)
-    ∙ ap (λ (t : Result (V × List ℕ) ℕ). t >>= λ v. k v.0 v.1) (r.again z.0 (spell z.0 z.1 ++ rest) f.0)
-    ∙ (s z.0 f.0).again z.1 rest f.1;
+      ap (bind p k) (append_assoc (spellP z.0) (spell z.0 z.1) rest)
+      ∙ ap (λ (t : Result (V × List ℕ) ℕ). t >>= λ v. k v.0 v.1) (r.again z.0 (spell z.0 z.1 ++ rest) f.0)
+      ∙ (s z.0 f.0).again z.1 rest f.1;
   begins = λ bytes left fits e.
-    elim (bind_err (p bytes) (λ v. k v.0 v.1) left e) [
-      | inl h ↦
-        let b = r.begins bytes left fits h in
-        let y = (s b.value b.fits).some in
-        record { value = (b.value, y.0); fits = (b.fits, y.1); front = b.front; back = b.back; more = b.more ++ spell b.value y.0; parts = b.parts; last = b.last;
-          spelled = ap (λ (t : List ℕ). t ++ spell b.value y.0) b.spelled ∙ append_assoc b.front b.more (spell b.value y.0) }
-      | inr a ↦
-        let f = r.found bytes a.0.0 a.0.1 fits a.1 in
-        let behind : IsBytes a.0.1 = IsBytes-behind (spellP f.0) a.0.1 (subst IsBytes f.3 fits) in
-        let b = (s f.0 f.2).begins a.0.1 left behind (subst (λ (v : V). k v a.0.1 ≡ Err left) f.1 a.2) in
-        record { value = (f.0, b.value); fits = (f.2, b.fits); front = spellP f.0 ++ b.front; back = b.back; more = b.more; last = b.last;
-          parts = f.3 ∙ ap (λ (t : List ℕ). spellP f.0 ++ t) b.parts ∙ sym (append_assoc (spellP f.0) b.front b.back);
-          spelled = ap (λ (t : List ℕ). spellP f.0 ++ t) b.spelled ∙ sym (append_assoc (spellP f.0) b.front b.more) }
-    ];
+      elim (bind_err (p bytes) (λ v. k v.0 v.1) left e) [
+        | inl h ↦
+            let b = r.begins bytes left fits h in
+            let y = (s b.value b.fits).some in
+            record {
+              value = (b.value, y.0);
+              fits = (b.fits, y.1);
+              front = b.front;
+              back = b.back;
+              more = b.more ++ spell b.value y.0;
+              parts = b.parts;
+              last = b.last;
+              spelled = ap (λ (t : List ℕ). t ++ spell b.value y.0) b.spelled ∙ append_assoc b.front b.more (spell b.value y.0);
+            }
+        | inr a ↦
+            let f = r.found bytes a.0.0 a.0.1 fits a.1 in
+            let behind : IsBytes a.0.1 = IsBytes-behind (spellP f.0) a.0.1 (subst IsBytes f.3 fits) in
+            let b = (s f.0 f.2).begins a.0.1 left behind (subst (λ (v : V). k v a.0.1 ≡ Err left) f.1 a.2) in
+            record {
+              value = (f.0, b.value);
+              fits = (f.2, b.fits);
+              front = spellP f.0 ++ b.front;
+              back = b.back;
+              more = b.more;
+              last = b.last;
+              parts = f.3 ∙ ap (λ (t : List ℕ). spellP f.0 ++ t) b.parts ∙ sym (append_assoc (spellP f.0) b.front b.back);
+              spelled = ap (λ (t : List ℕ). spellP f.0 ++ t) b.spelled ∙ sym (append_assoc (spellP f.0) b.front b.more);
+            }
+      ];
   furthest = λ bytes left fits e z front back more f parts spelled.
-    elim (cuts (spellP z.0) (spell z.0 z.1) front more spelled) [
-      | inl m ↦ elim (bind_err (p bytes) (λ v. k v.0 v.1) left e) [
+      elim (cuts (spellP z.0) (spell z.0 z.1) front more spelled) [
+        | inl m ↦ elim (bind_err (p bytes) (λ v. k v.0 v.1) left e) [
           | inl h ↦ r.furthest bytes left fits h z.0 front back m.0 f.0 parts m.1
           | inr a ↦
-            let g = r.found bytes a.0.0 a.0.1 fits a.1 in
-            let behind : IsBytes a.0.1 = IsBytes-behind (spellP g.0) a.0.1 (subst IsBytes g.3 fits) in
-            let b = (s g.0 g.2).begins a.0.1 left behind (subst (λ (v : V). k v a.0.1 ≡ Err left) g.1 a.2) in
-            let short : length a.0.1 ≤ length back = not_past r z.0 g.0 front back m.0 a.0.1 f.0 g.2 m.1 (sym parts ∙ g.3) in
-            omega (arith, ap (λ (t : List ℕ). length t) b.parts, length-append b.front b.back, b.last)
+              let g = r.found bytes a.0.0 a.0.1 fits a.1 in
+              let behind : IsBytes a.0.1 = IsBytes-behind (spellP g.0) a.0.1 (subst IsBytes g.3 fits) in
+              let b = (s g.0 g.2).begins a.0.1 left behind (subst (λ (v : V). k v a.0.1 ≡ Err left) g.1 a.2) in
+              let short : length a.0.1 ≤ length back = not_past r z.0 g.0 front back m.0 a.0.1 f.0 g.2 m.1 (sym parts ∙ g.3) in
+              omega (arith, ap (λ (t : List ℕ). length t) b.parts, length-append b.front b.back, b.last)
         ]
-      | inr m ↦
-        let whole : bytes ≡ spellP z.0 ++ (m.0 ++ back) = parts ∙ ap (λ (t : List ℕ). t ++ back) m.1 ∙ append_assoc (spellP z.0) m.0 back in
-        let read : p bytes ≡ Ok (makeP z.0, m.0 ++ back) = ap p whole ∙ r.again z.0 (m.0 ++ back) f.0 in
-        elim (bind_err (p bytes) (λ v. k v.0 v.1) left e) [
-          | inl h ↦ ok_err (p bytes) (makeP z.0, m.0 ++ back) left read h
-          | inr a ↦
-            let same : a.0 ≡ (makeP z.0, m.0 ++ back) = ok_is a.0 (makeP z.0, m.0 ++ back) (sym a.1 ∙ read) in
-            let behind : IsBytes (m.0 ++ back) = IsBytes-behind (spellP z.0) (m.0 ++ back) (subst IsBytes whole fits) in
-            (s z.0 f.0).furthest (m.0 ++ back) left behind (subst (λ (v : V × List ℕ). k v.0 v.1 ≡ Err left) same a.2) z.1 m.0 back more f.1 refl m.2
-        ]
-    ];
+        | inr m ↦
+            let whole : bytes ≡ spellP z.0 ++ (m.0 ++ back) = parts ∙ ap (λ (t : List ℕ). t ++ back) m.1 ∙ append_assoc (spellP z.0) m.0 back in
+            let read : p bytes ≡ Ok (makeP z.0, m.0 ++ back) = ap p whole ∙ r.again z.0 (m.0 ++ back) f.0 in
+            elim (bind_err (p bytes) (λ v. k v.0 v.1) left e) [
+              | inl h ↦ ok_err (p bytes) (makeP z.0, m.0 ++ back) left read h
+              | inr a ↦
+                  let same : a.0 ≡ (makeP z.0, m.0 ++ back) = ok_is a.0 (makeP z.0, m.0 ++ back) (sym a.1 ∙ read) in
+                  let behind : IsBytes (m.0 ++ back) = IsBytes-behind (spellP z.0) (m.0 ++ back) (subst IsBytes whole fits) in
+                  (s z.0 f.0).furthest (m.0 ++ back) left behind (subst (λ (v : V × List ℕ). k v.0 v.1 ≡ Err left) same a.2) z.1 m.0 back more f.1 refl m.2
+            ]
+      ];
 }
 
 pub made_reads : {A V C : Type 0} {p : Reader V} {makeP : A → V} {spellP : A → List ℕ} {FP : A → Type 0} (f : V → C) →
@@ -150,29 +165,29 @@ pub made_reads : {A V C : Type 0} {p : Reader V} {makeP : A → V} {spellP : A �
 made_reads {V = V} {p = p} {makeP = makeP} {spellP = spellP} f r = record {
   some = r.some;
   found = λ bytes c rest fits e.
-    let a = bind_ok (p bytes) (λ v. Ok (f v.0, v.1)) (c, rest) e in
-    let g = r.found bytes a.0.0 a.0.1 fits a.1 in
-    let same = ok_is (f a.0.0, a.0.1) (c, rest) a.2 in
-    (g.0, sym (ap (λ q. q.0) same) ∙ ap f g.1, g.2, g.3 ∙ ap (λ (t : List ℕ). spellP g.0 ++ t) (ap (λ q. q.1) same));
+      let a = bind_ok (p bytes) (λ v. Ok (f v.0, v.1)) (c, rest) e in
+      let g = r.found bytes a.0.0 a.0.1 fits a.1 in
+      let same = ok_is (f a.0.0, a.0.1) (c, rest) a.2 in
+      (g.0, sym (ap (λ q. q.0) same) ∙ ap f g.1, g.2, g.3 ∙ ap (λ (t : List ℕ). spellP g.0 ++ t) (ap (λ q. q.1) same));
   again = λ x rest fits. ap (λ (t : Result (V × List ℕ) ℕ). t >>= λ v. Ok (f v.0, v.1)) (r.again x rest fits);
   begins = λ bytes left fits e.
-    elim (bind_err (p bytes) (λ v. Ok (f v.0, v.1)) left e) [
-      | inl h ↦ r.begins bytes left fits h
-      | inr a ↦ absurd (ok_err (okay (f a.0.0, a.0.1)) (f a.0.0, a.0.1) left refl a.2)
-    ];
+      elim (bind_err (p bytes) (λ v. Ok (f v.0, v.1)) left e) [
+        | inl h ↦ r.begins bytes left fits h
+        | inr a ↦ absurd (ok_err (okay (f a.0.0, a.0.1)) (f a.0.0, a.0.1) left refl a.2)
+      ];
   furthest = λ bytes left fits e.
-    elim (bind_err (p bytes) (λ v. Ok (f v.0, v.1)) left e) [
-      | inl h ↦ r.furthest bytes left fits h
-      | inr a ↦ absurd (ok_err (okay (f a.0.0, a.0.1)) (f a.0.0, a.0.1) left refl a.2)
-    ];
+      elim (bind_err (p bytes) (λ v. Ok (f v.0, v.1)) left e) [
+        | inl h ↦ r.furthest bytes left fits h
+        | inr a ↦ absurd (ok_err (okay (f a.0.0, a.0.1)) (f a.0.0, a.0.1) left refl a.2)
+      ];
 }
 
 pub done_reads : {C : Type 0} (c : C) → Reads (done c) (λ (u : Unit {0}). c) (λ u. []) (λ u. Unit {0})
 done_reads c = record {
   some = (tt, tt);
   found = λ bytes d rest fits e.
-    let same = ok_is (c, bytes) (d, rest) e in
-    (tt, sym (ap (λ q. q.0) same), tt, ap (λ q. q.1) same);
+      let same = ok_is (c, bytes) (d, rest) e in
+      (tt, sym (ap (λ q. q.0) same), tt, ap (λ q. q.1) same);
   again = λ x rest fits. refl;
   begins = λ bytes left fits e. ok_err (okay (c, bytes)) (c, bytes) left refl e;
   furthest = λ bytes left fits e. ok_err (okay (c, bytes)) (c, bytes) left refl e;
@@ -187,19 +202,19 @@ pub as_value : {A C : Type 0} {R : Reader C} {make : A → C} {spell : A → Lis
 as_value {R = R} {make = make} spell' F' r to from = record {
   some = (make r.some.0, (from r.some.0 r.some.1).0);
   found = λ bytes c rest fits e.
-    let f = r.found bytes c rest fits e in
-    let g = from f.0 f.2 in
-    (make f.0, f.1, g.0, f.3 ∙ ap (λ (t : List ℕ). t ++ rest) (sym g.1));
+      let f = r.found bytes c rest fits e in
+      let g = from f.0 f.2 in
+      (make f.0, f.1, g.0, f.3 ∙ ap (λ (t : List ℕ). t ++ rest) (sym g.1));
   again = λ c rest f.
-    let x = to c f in
-    ap (λ (t : List ℕ). R (t ++ rest)) (sym x.3) ∙ r.again x.0 rest x.2 ∙ ap (λ v. Ok (v, rest)) x.1;
+      let x = to c f in
+      ap (λ (t : List ℕ). R (t ++ rest)) (sym x.3) ∙ r.again x.0 rest x.2 ∙ ap (λ v. Ok (v, rest)) x.1;
   begins = λ bytes left fits e.
-    let b = r.begins bytes left fits e in
-    let g = from b.value b.fits in
-    record { value = make b.value; fits = g.0; front = b.front; back = b.back; more = b.more; parts = b.parts; last = b.last; spelled = g.1 ∙ b.spelled };
+      let b = r.begins bytes left fits e in
+      let g = from b.value b.fits in
+      record { value = make b.value; fits = g.0; front = b.front; back = b.back; more = b.more; parts = b.parts; last = b.last; spelled = g.1 ∙ b.spelled };
   furthest = λ bytes left fits e c front back more f parts spelled.
-    let x = to c f in
-    r.furthest bytes left fits e x.0 front back more x.2 parts (x.3 ∙ spelled);
+      let x = to c f in
+      r.furthest bytes left fits e x.0 front back more x.2 parts (x.3 ∙ spelled);
 }
 
 -- ---- lists
@@ -219,11 +234,11 @@ pub repeated_reads : {C : Type 0} {p : Reader C} {spell : C → List ℕ} {F : C
 unfolding repeated
 repeated_reads {C = C} {p = p} {spell = spell} {F = F} r zero =
     as_value (λ xs. flat_map spell xs) (λ xs. (length xs ≡ 0) × AllByRecursion F xs) (done_reads [])
-      (no_more spell F) (λ x f. ((refl, tt), refl))
+    (no_more spell F) (λ x f. ((refl, tt), refl))
 repeated_reads {C = C} {p = p} {spell = spell} {F = F} r (suc n) =
     as_value (λ xs. flat_map spell xs) (λ xs. (length xs ≡ suc n) × AllByRecursion F xs)
-      (bind_reads (λ first. made (λ others. first ∷ others) (repeated p n)) r (λ x f. made_reads (λ others. x ∷ others) (repeated_reads r n)))
-      (one_more spell F n) (λ z f. ((ap suc f.1.0, (f.0, f.1.1)), flat_map-cons spell z.0 z.1))
+    (bind_reads (λ first. made (λ others. first ∷ others) (repeated p n)) r (λ x f. made_reads (λ others. x ∷ others) (repeated_reads r n)))
+    (one_more spell F n) (λ z f. ((ap suc f.1.0, (f.0, f.1.1)), flat_map-cons spell z.0 z.1))
 
 -- ---- formats, with the values that they are made of
 

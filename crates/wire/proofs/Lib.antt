@@ -2,3 +2,4 @@ pub mod Formats
 pub mod Choices
 pub mod Digits
 pub mod Parts
+pub mod Loops

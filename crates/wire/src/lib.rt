@@ -4,7 +4,9 @@
 mod answers;
 mod faults;
 mod fields;
+mod item_fields;
 mod items;
+mod lists;
 mod numbers;
 mod requests;
 
