@@ -128,13 +128,15 @@ abbrev pub level_of_number : ℕ → Level
 level_of_number (suc (suc zero)) = levels.Write
 level_of_number _ = levels.Read
 
+-- a table from least to most, read or written
+unfoldable pub right_in : ℕ → ℕ → Reader (TableId × Level)
+right_in least most bytes = bind (u32_in least most) (λ table. made (λ level. (record { 0 = table }, level_of_number level)) (byte_in 1 2)) bytes
+
 -- n rights, whose tables strictly increase from the least: each leaves room for those behind it
 unfoldable pub tables_from : ℕ → ℕ → Reader (List (TableId × Level))
 tables_from zero least bytes = Ok ([], bytes)
 tables_from (suc n) least bytes =
-    bind (u32_in least (4294967295 - n)) (λ table.
-    bind (byte_in 1 2) (λ level.
-    made (λ others. (record { 0 = table }, level_of_number level) ∷ others) (tables_from n (table + 1)))) bytes
+    bind (right_in least (4294967295 - n)) (λ first. made (λ others. first ∷ others) (tables_from n (first.0.0 + 1))) bytes
 
 unfoldable pub rights_at : Reader (List (TableId × Level))
 rights_at bytes = bind (byte_in 0 64) (λ n. tables_from n 0) bytes

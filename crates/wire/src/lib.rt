@@ -1,13 +1,16 @@
 //! The messages between clients and server, and their one spelling as bytes.
 #![tactic(auto)]
 
+mod answer_fields;
 mod answers;
 mod faults;
 mod fields;
+mod granted;
 mod item_fields;
 mod items;
 mod lists;
 mod numbers;
+mod request_fields;
 mod requests;
 
 pub use answers::{Answer, FetchAnswer, InstallAnswer, PutAnswer, TextAnswer};

@@ -64,7 +64,8 @@ pub fn u16_from(bytes: &[u8], least: u16, most: u16) -> Result<(u16, &[u8]), Rea
 #[tactic(auto, unfolding(crate::specs::Fields::u32_in))]
 pub fn u32_from(bytes: &[u8], least: u32, most: u32) -> Result<(u32, &[u8]), ReadFault>
     requires { least ≤ most }
-    ensures { Gives (λ x. (x.0, x.1.now)) result (u32_in least most bytes.now) }
+    ensures given { Gives (λ x. (x.0, x.1.now)) result (u32_in least most bytes.now) }
+    ensures within { IfOk result (λ x. (least ≤ x.0) × (x.0 ≤ most)) }
 {
     let (high, rest) = u16_from(bytes, (least / 65_536) as u16, (most / 65_536) as u16)?;
     let above = u32::from(high) * 65_536;
