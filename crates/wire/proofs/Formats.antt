@@ -77,7 +77,7 @@ no_longer {R = R} {make = make} {spell = spell} r x y more fx fy e =
     ap (λ p. p.1) both
 
 -- what begins one spelling goes no further than another that stands there whole
-not_past : {A C : Type 0} {R : Reader C} {make : A → C} {spell : A → List ℕ} {F : A → Type 0} → Reads R make spell F →
+pub not_past : {A C : Type 0} {R : Reader C} {make : A → C} {spell : A → List ℕ} {F : A → Type 0} → Reads R make spell F →
     (x y : A) (front back more rest : List ℕ) → F x → F y → spell x ≡ front ++ more → front ++ back ≡ spell y ++ rest → length rest ≤ length back
 not_past {spell = spell} r x y front back more rest fx fy begun e =
     elim (cuts front back (spell y) rest e) [

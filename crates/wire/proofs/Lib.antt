@@ -4,3 +4,7 @@ pub mod Digits
 pub mod Parts
 pub mod Tables
 pub mod Loops
+pub mod Ends
+pub mod Asking
+pub mod Answering
+pub mod Replies

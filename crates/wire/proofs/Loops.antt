@@ -3,6 +3,9 @@ use Rattle.std.proofs.Common.{◌≡◌, ℕ, suc, ◌-◌, ◌+◌, ◌≤◌, 
 use Rattle.std.proofs.lemmas.List.{append-nil}
 use Rattle.wire.specs.declared.faults.ReadFault.{ReadFault}
 use Rattle.wire.specs.declared.faults.ReadFault.TheVariants as faults
+use Rattle.sp_base.specs.declared.numbers.TableId.{TableId}
+use Rattle.sp_base.specs.declared.rights.Level.{Level}
+use Rattle.wire.specs.Fields.{right_in, tables_from}
 use Rattle.wire.specs.Readers.{Reader, ◌>>=◌, Fails, repeated}
 
 -- what was read before, and what is still read
@@ -39,4 +42,37 @@ unfolding repeated
 is_done {A = A} p front count i bytes total le so_far =
     let k : count - i ≡ 0 = omega arith in
     let one : with_front front (repeated p (count - i) bytes) ≡ Ok (front, bytes) = rw k (ap (λ (xs : List A). Ok (xs, bytes)) (append-nil front)) in
+    sym so_far ∙ one
+
+pub rights_go_on : (front : List (TableId × Level)) (count i least most : ℕ) (bytes : List ℕ) (r : TableId × Level) (after : List ℕ)
+    (total : Result (List (TableId × Level) × List ℕ) ℕ) → i < count → most ≡ 4294967295 - (count - 1 - i) →
+    right_in least most bytes ≡ Ok (r, after) → with_front front (tables_from (count - i) least bytes) ≡ total →
+    with_front (front ++ r ∷ []) (tables_from (count - (i + 1)) (r.0.0 + 1) after) ≡ total
+unfolding tables_from
+rights_go_on front count i least most bytes r after total lt m h so_far =
+    let k : count - i ≡ suc (count - (i + 1)) = omega arith in
+    let n : most ≡ 4294967295 - (count - (i + 1)) = omega (arith, m) in
+    let h' : right_in least (4294967295 - (count - (i + 1))) bytes ≡ Ok (r, after) = ap (λ (x : ℕ). right_in least x bytes) (sym n) ∙ h in
+    let one : with_front front (tables_from (count - i) least bytes) ≡ with_front (front ++ r ∷ []) (tables_from (count - (i + 1)) (r.0.0 + 1) after) =
+        rw (k, h') (regroup front r (tables_from (count - (i + 1)) (r.0.0 + 1) after)) in
+    sym one ∙ so_far
+
+pub rights_end : (e : ReadFault) (front : List (TableId × Level)) (count i least most : ℕ) (bytes : List ℕ)
+    (total : Result (List (TableId × Level) × List ℕ) ℕ) → i < count → most ≡ 4294967295 - (count - 1 - i) →
+    Fails e (right_in least most bytes) → with_front front (tables_from (count - i) least bytes) ≡ total → Fails e total
+unfolding tables_from
+rights_end faults.Memory front count i least most bytes total lt m h so_far = tt
+rights_end (faults.Bad left) front count i least most bytes total lt m h so_far =
+    let k : count - i ≡ suc (count - (i + 1)) = omega arith in
+    let n : most ≡ 4294967295 - (count - (i + 1)) = omega (arith, m) in
+    let h' : right_in least (4294967295 - (count - (i + 1))) bytes ≡ Err left = ap (λ (x : ℕ). right_in least x bytes) (sym n) ∙ h in
+    let one : with_front front (tables_from (count - i) least bytes) ≡ Err left = rw (k, h') refl in
+    sym so_far ∙ one
+
+pub rights_done : (front : List (TableId × Level)) (count i least : ℕ) (bytes : List ℕ) (total : Result (List (TableId × Level) × List ℕ) ℕ) →
+    count ≤ i → with_front front (tables_from (count - i) least bytes) ≡ total → total ≡ Ok (front, bytes)
+unfolding tables_from
+rights_done front count i least bytes total le so_far =
+    let k : count - i ≡ 0 = omega arith in
+    let one : with_front front (tables_from (count - i) least bytes) ≡ Ok (front, bytes) = rw k (ap (λ (xs : List (TableId × Level)). Ok (xs, bytes)) (append-nil front)) in
     sym so_far ∙ one

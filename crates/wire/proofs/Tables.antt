@@ -9,7 +9,7 @@ use Rattle.sp_base.specs.declared.rights.Level.TheVariants as levels
 use Rattle.wire.specs.Readers.{Reader, bind, made, done}
 use Rattle.wire.specs.Fields.{byte_in, u32_in, level_of_number, right_in, tables_from, rights_at}
 use Rattle.wire.specs.Spelling.{u32, IsU32, level_number, right, rights, FitRights}
-use Rattle.wire.proofs.Formats.{IsBytes, Reads, Format, Shows, Makes, bind_reads, made_reads, done_reads, as_value, as_format, format_of}
+use Rattle.wire.proofs.Formats.{IsBytes, IsBytes-behind, Reads, Format, Shows, Makes, bind_reads, made_reads, done_reads, as_value, as_format, format_of}
 use Rattle.wire.proofs.Digits.{IsIn, byte_reads, u32_reads}
 
 abbrev FitsRight : ℕ → ℕ → TableId × Level → Type 0
@@ -88,3 +88,14 @@ unfolding rights_at
 rights_reads = as_format rights_format rights FitRights
     (λ rs f. ((length rs, rs), refl, ((omega arith, f.rights.few), record { rising = f.rights.rising; count = refl; tables = f.tables }), refl))
     (λ x f. (record { rights = record { rising = f.1.rising; few = omega (arith, f.1.count, f.0.1) }; tables = f.1.tables }, ap (λ (n : ℕ). n ∷ flat_map right x.1) f.1.count))
+
+-- what is read behind a count is a list of rights
+pub rights_read : (bytes : List ℕ) (count : ℕ) (rest : List ℕ) (rs : List (TableId × Level)) (after : List ℕ) → IsBytes bytes →
+    byte_in 0 64 bytes ≡ Ok (count, rest) → tables_from count 0 rest ≡ Ok (rs, after) → AreRights rs
+rights_read bytes count rest rs after fits e d =
+    let f = (byte_reads 0 64 (omega arith)).found bytes count rest fits e in
+    let behind : IsBytes rest = IsBytes-behind (f.0 ∷ []) rest (subst IsBytes f.3 fits) in
+    let few : count ≤ 64 = omega (arith, f.1, f.2.1) in
+    let g = (tables_reads count 0 (omega arith)).found rest rs after behind d in
+    let rise : Rise count 0 rs = subst (Rise count 0) (sym g.1) g.2 in
+    record { rising = rise.rising; few = omega (arith, rise.count) }

@@ -1,4 +1,4 @@
-ghost use Rattle.std.specs.Prelude.{◌≡◌};
+ghost use Rattle.std.specs.Prelude.{◌≡◌, ◌<◌, ◌-◌, ◌^◌};
 ghost use Rattle.wire.specs.declared.faults.ReadFault.TheVariants.{Memory};
 
 use std::alloc::{AllocError, AllocFailed};
@@ -43,5 +43,17 @@ impl From<sp_base::Memory> for ReadFault {
 
     fn from(_: sp_base::Memory) -> ReadFault {
         ReadFault::Memory
+    }
+}
+
+/// The place of the bad byte among `len` bytes. A place above 2^32 - 1 is told as that number.
+pub fn at_of(len: usize, left: usize) -> u32
+    ensures { len < 2 ^ 32 → result ≡ len - left }
+{
+    let at = len.saturating_sub(left);
+    if at < u32::MAX as usize {
+        at as u32
+    } else {
+        u32::MAX
     }
 }

@@ -3,6 +3,7 @@
 
 mod answer_fields;
 mod answers;
+mod decode;
 mod faults;
 mod fields;
 mod granted;
@@ -14,6 +15,7 @@ mod request_fields;
 mod requests;
 
 pub use answers::{Answer, FetchAnswer, InstallAnswer, PutAnswer, TextAnswer};
+pub use decode::{decode_answer, decode_request};
 pub use faults::WireFault;
 pub use items::{Item, Items};
 pub use requests::{Calls, Request};
