@@ -248,6 +248,7 @@ two_bytes h l hb lb (suc zero) = lb
 two_bytes h l hb lb (suc (suc i)) = omega arith
 
 u16_two : (h l : ℕ) → h < 256 → l < 256 → u16 (256 * h + l) ≡ h ∷ l ∷ []
+unfolding u16
 u16_two h l hb lb = be_bytes_2 (h ∷ l ∷ []) (256 * h + l) refl (two_bytes h l hb lb) (omega arith)
 
 low_le : (base least most high : ℕ) → 1 ≤ base → least ≤ most → base * high ≤ most → least < base * high + base → low_least base least high ≤ low_most base most high
@@ -277,6 +278,7 @@ unfolding u16_in
 u16_reads least most le lt = as_format (u16_format least most le) u16 (IsIn least most) (u16_to least most le lt) (u16_from least most le lt)
 
 four_bytes : (h l : ℕ) → IsBytes (u16 h ++ u16 l)
+unfolding u16
 four_bytes h l zero = omega arith
 four_bytes h l (suc zero) = omega arith
 four_bytes h l (suc (suc zero)) = omega arith
@@ -284,6 +286,7 @@ four_bytes h l (suc (suc (suc zero))) = omega arith
 four_bytes h l (suc (suc (suc (suc i)))) = omega arith
 
 u32_two : (h l : ℕ) → h < 65536 → l < 65536 → u32 (65536 * h + l) ≡ u16 h ++ u16 l
+unfolding u16 u32
 u32_two h l hb lb = be_bytes_4 (u16 h ++ u16 l) (65536 * h + l) refl (four_bytes h l) (omega arith)
 
 abbrev u32_format : (least most : ℕ) → least ≤ most → most < 2 ^ 32 → Format ℕ

@@ -38,9 +38,17 @@ all_begins {R = R} {spell = spell} r body left fits e =
     elim (bind_err (R body) rest_test left e) [
       | inl h ↦ r.begins body left fits h
       | inr a ↦
-        let f = r.found body a.0.0 a.0.1 fits a.1 in
-        record { value = f.0; fits = f.2; front = spell f.0; back = a.0.1; more = []; parts = f.3;
-          last = test_err (eqb (length a.0.1) 0) a.0.0 (length a.0.1) left a.2; spelled = sym (append-nil (spell f.0)) }
+          let f = r.found body a.0.0 a.0.1 fits a.1 in
+          record {
+            value = f.0;
+            fits = f.2;
+            front = spell f.0;
+            back = a.0.1;
+            more = [];
+            parts = f.3;
+            last = test_err (eqb (length a.0.1) 0) a.0.0 (length a.0.1) left a.2;
+            spelled = sym (append-nil (spell f.0));
+          }
     ]
 
 pub all_furthest : {C : Type 0} {R : Reader C} {spell : C → List ℕ} {F : C → Type 0} → Reads R (λ c. c) spell F →
@@ -49,9 +57,9 @@ all_furthest {R = R} {spell = spell} r body left fits e = λ m front back more f
     elim (bind_err (R body) rest_test left e) [
       | inl h ↦ r.furthest body left fits h m front back more f parts spelled
       | inr a ↦
-        let g = r.found body a.0.0 a.0.1 fits a.1 in
-        let short : length a.0.1 ≤ length back = not_past r m g.0 front back more a.0.1 f g.2 spelled (sym parts ∙ g.3) in
-        omega (arith, test_err (eqb (length a.0.1) 0) a.0.0 (length a.0.1) left a.2)
+          let g = r.found body a.0.0 a.0.1 fits a.1 in
+          let short : length a.0.1 ≤ length back = not_past r m g.0 front back more a.0.1 f g.2 spelled (sym parts ∙ g.3) in
+          omega (arith, test_err (eqb (length a.0.1) 0) a.0.0 (length a.0.1) left a.2)
     ]
 
 -- the front of the bytes, by how many are left behind it

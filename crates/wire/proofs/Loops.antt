@@ -54,7 +54,7 @@ rights_go_on front count i least most bytes r after total lt m h so_far =
     let n : most ≡ 4294967295 - (count - (i + 1)) = omega (arith, m) in
     let h' : right_in least (4294967295 - (count - (i + 1))) bytes ≡ Ok (r, after) = ap (λ (x : ℕ). right_in least x bytes) (sym n) ∙ h in
     let one : with_front front (tables_from (count - i) least bytes) ≡ with_front (front ++ r ∷ []) (tables_from (count - (i + 1)) (r.0.0 + 1) after) =
-        rw (k, h') (regroup front r (tables_from (count - (i + 1)) (r.0.0 + 1) after)) in
+    rw (k, h') (regroup front r (tables_from (count - (i + 1)) (r.0.0 + 1) after)) in
     sym one ∙ so_far
 
 pub rights_end : (e : ReadFault) (front : List (TableId × Level)) (count i least most : ℕ) (bytes : List ℕ)

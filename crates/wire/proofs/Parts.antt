@@ -19,10 +19,12 @@ use Rattle.wire.proofs.Formats.{Reads, Format, Shows, Makes, bind_reads, made_re
 use Rattle.wire.proofs.Choices.{arms, no_arms, tagged_reads}
 use Rattle.wire.proofs.Digits.{IsIn, byte_reads, bytes_reads, number_reads, wide32, wide64, u16_reads}
 
-abbrev pub u32_any : Reads (number_at w32) (λ n. n) u32 IsU32
+pub u32_any : Reads (number_at w32) (λ n. n) u32 IsU32
+unfolding u32
 u32_any = number_reads w32 (2 ^ 32) wide32
 
-abbrev pub u64_any : Reads (number_at w64) (λ n. n) u64 IsU64
+pub u64_any : Reads (number_at w64) (λ n. n) u64 IsU64
+unfolding u64
 u64_any = number_reads w64 (2 ^ 64) wide64
 
 -- ---- bytes behind their length

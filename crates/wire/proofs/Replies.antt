@@ -220,5 +220,5 @@ answer_longest body left fits e =
       within = omega arith;
       begins = record { message = b.value; fits = b.fits; more = b.more; spelled = b.spelled ∙ ap (λ (t : List ℕ). t ++ b.more) (sym front) };
       longest = λ k le begun. not_further body k left le
-        (all_furthest answer_reads body left fits e begun.message (take k body) (drop k body) begun.more begun.fits (sym (take-append-drop k body)) begun.spelled);
+          (all_furthest answer_reads body left fits e begun.message (take k body) (drop k body) begun.more begun.fits (sym (take-append-drop k body)) begun.spelled);
     }

@@ -18,13 +18,13 @@ use Rattle.sp_base.specs.declared.writes.Change.TheVariants as changes
 use Rattle.sp_base.specs.declared.writes.Write.{Write}
 
 -- numbers of two, four and eight bytes, the greatest byte first
-abbrev pub u16 : ℕ → List ℕ
+unfoldable pub u16 : ℕ → List ℕ
 u16 n = to_be_bytes w16 n
 
-abbrev pub u32 : ℕ → List ℕ
+unfoldable pub u32 : ℕ → List ℕ
 u32 n = to_be_bytes w32 n
 
-abbrev pub u64 : ℕ → List ℕ
+unfoldable pub u64 : ℕ → List ℕ
 u64 n = to_be_bytes w64 n
 
 abbrev pub IsU32 : ℕ → Type 0

@@ -13,6 +13,7 @@ mod lists;
 mod numbers;
 mod request_fields;
 mod requests;
+mod writing;
 
 pub use answers::{Answer, FetchAnswer, InstallAnswer, PutAnswer, TextAnswer};
 pub use decode::{decode_answer, decode_request};

@@ -20,4 +20,4 @@ pub returns-in-Err-Bad-clause-bad : goal.returns-in-Err-Bad-clause-bad
 returns-in-Err-Bad-clause-bad c = λ at e short.
     let same : length c.args.body.now - c.in-Err-Bad.left ≡ at = sym (c.at_of.ensures short) ∙ cc in
     subst (LongestRequest c.args.body.now) same
-      (request_longest c.args.body.now c.in-Err-Bad.left (λ i. omega (arith, c.type_inv.body i)) (rw c.in-Err-Bad.field-0-is at c.in-Err-Bad.ensures))
+    (request_longest c.args.body.now c.in-Err-Bad.left (λ i. omega (arith, c.type_inv.body i)) (rw c.in-Err-Bad.field-0-is at c.in-Err-Bad.ensures))

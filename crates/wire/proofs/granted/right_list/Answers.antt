@@ -9,7 +9,7 @@ returns-in_err-next c =
     let p = err_from_is_err_and c.from_residual.result c.from_residual.ensures.1 in
     let most : 4294967295 - c.from-most.result ≡ 4294967295 - (c.args.count - 1 - c.loop-i.i) = ap (λ (n : ℕ). 4294967295 - n) c.from-most.ensures in
     rw (p.1, p.2) (rights_end c.in_err-next.field-0.0 c.loop-i.list.items c.args.count c.loop-i.i c.loop-i.least (4294967295 - c.from-most.result) c.loop-i.rest.now
-      (tables_from c.args.count 0 c.args.bytes.now) c.loop-i-test.true most c.in_err-next.ensures.given c.loop-i.invariant.read)
+    (tables_from c.args.count 0 c.args.bytes.now) c.loop-i-test.true most c.in_err-next.ensures.given c.loop-i.invariant.read)
 
 pub loop-i-preserved : goal.loop-i-preserved
 loop-i-preserved c =
@@ -18,8 +18,8 @@ loop-i-preserved c =
     let least : c.from-least.result ≡ next.0.0 = c.from-least.ensures in
     let total = tables_from c.args.count 0 c.args.bytes.now in
     let read : with_front (c.loop-i.list.items ++ next ∷ []) (tables_from (c.args.count - (c.loop-i.i + 1)) (next.0.0 + 1) c.in_ok-next.after.now) ≡ total =
-      rights_go_on c.loop-i.list.items c.args.count c.loop-i.i c.loop-i.least (4294967295 - c.from-most.result) c.loop-i.rest.now next c.in_ok-next.after.now
-        total c.loop-i-test.true most c.in_ok-next.ensures.given c.loop-i.invariant.read in
+    rights_go_on c.loop-i.list.items c.args.count c.loop-i.i c.loop-i.least (4294967295 - c.from-most.result) c.loop-i.rest.now next c.in_ok-next.after.now
+    total c.loop-i-test.true most c.in_ok-next.ensures.given c.loop-i.invariant.read in
     record {
       room = omega (arith, most, least, c.in_ok-next.ensures.within.1);
       read = rw (c.in_ok-push.ensures.items, least) read;
