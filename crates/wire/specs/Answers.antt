@@ -23,22 +23,42 @@ pub record IsIn (least most n : ℕ) : Type 0 where
 
 -- ---- answer items
 
+abbrev pub item_tag : Item → ℕ
+item_tag (Committed n ended) = 0
+item_tag (Stale last at) = 1
+item_tag (Conflict table place read read_at now now_at) = 2
+item_tag (Pushed load spent seen) = 3
+item_tag (Full at) = 4
+item_tag (Busy number) = 5
+item_tag Repeated = 6
+item_tag (NoExtension count at) = 7
+item_tag BadBudget = 8
+item_tag Memory = 9
+item_tag (Foreign table) = 10
+item_tag (Shape code) = 11
+item_tag Lied = 12
+item_tag NotParked = 13
+
+abbrev pub item_fields : Item → List ℕ
+item_fields (Committed n ended) = u64 n ++ outcome ended
+item_fields (Stale last at) = u64 last ++ u64 at
+item_fields (Conflict table place read read_at now now_at) =
+    u32 table.0 ++ (key place ++ (u64 read ++ (u64 read_at ++ (u64 now ++ u64 now_at))))
+item_fields (Pushed load spent seen) = u32 load ++ (u32 spent ++ reads seen)
+item_fields (Full at) = u64 at
+item_fields (Busy number) = u64 number.0
+item_fields (NoExtension count at) = u32 count ++ u64 at
+item_fields (Foreign table) = u32 table.0
+item_fields (Shape code) = code ∷ []
+item_fields Repeated = []
+item_fields BadBudget = []
+item_fields Memory = []
+item_fields Lied = []
+item_fields NotParked = []
+
+-- an item: its tag, and its fields
 abbrev pub item : Item → List ℕ
-item (Committed n ended) = 0 ∷ (u64 n ++ outcome ended)
-item (Stale last at) = 1 ∷ (u64 last ++ u64 at)
-item (Conflict table place read read_at now now_at) =
-    2 ∷ (u32 table.0 ++ (key place ++ (u64 read ++ (u64 read_at ++ (u64 now ++ u64 now_at)))))
-item (Pushed load spent seen) = 3 ∷ (u32 load ++ (u32 spent ++ reads seen))
-item (Full at) = 4 ∷ u64 at
-item (Busy number) = 5 ∷ u64 number.0
-item Repeated = 6 ∷ []
-item (NoExtension count at) = 7 ∷ (u32 count ++ u64 at)
-item BadBudget = 8 ∷ []
-item Memory = 9 ∷ []
-item (Foreign table) = 10 ∷ u32 table.0
-item (Shape code) = 11 ∷ code ∷ []
-item Lied = 12 ∷ []
-item NotParked = 13 ∷ []
+item ended = item_tag ended ∷ item_fields ended
 
 -- each field is within its range
 abbrev pub FitsItem : Item → Type 0
@@ -86,6 +106,10 @@ pub record FitItems (items : List Item) : Type 0 where
   pub some : 1 ≤ length items
   pub few : length items ≤ 64
   pub each : AllByRecursion FitsBatchItem items
+
+-- items behind their count
+abbrev pub items_of : List Item → List ℕ
+items_of items = u16 (length items) ++ flat_map item items
 
 -- ---- answers of one request
 
@@ -144,7 +168,7 @@ FitsTextAnswer texts.Memory = Unit {0}
 abbrev pub answer : Answer → List ℕ
 answer (Welcome granted at) = 65 ∷ (rights granted ++ u64 at)
 answer (Installed given) = 66 ∷ install_answer given
-answer (Answers items) = 67 ∷ (u16 (length items) ++ flat_map item items)
+answer (Answers items) = 67 ∷ items_of items
 answer (Fetched given) = 68 ∷ fetch_answer given
 answer (Finished ended) = 69 ∷ item ended
 answer (PutDone given) = 70 ∷ put_answer given

@@ -14,6 +14,8 @@ mod numbers;
 mod request_fields;
 mod requests;
 mod writing;
+mod writing_items;
+mod writing_lists;
 
 pub use answers::{Answer, FetchAnswer, InstallAnswer, PutAnswer, TextAnswer};
 pub use decode::{decode_answer, decode_request};
