@@ -8,3 +8,4 @@ pub mod Ends
 pub mod Asking
 pub mod Answering
 pub mod Replies
+pub mod Framed

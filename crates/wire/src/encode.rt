@@ -1,4 +1,4 @@
-ghost use Rattle.std.specs.Prelude.{◌≡◌, ◌+◌, ◌-◌, ◌<◌, ◌≤◌, ◌^◌, ◌++◌, ℕ, List, IfOk, drop, length, vec_len};
+ghost use Rattle.std.specs.Prelude.{◌≡◌, ◌+◌, ◌-◌, ◌<◌, ◌≤◌, ◌^◌, ◌++◌, ℕ, List, IfOk, drop, length};
 ghost use Rattle.wire.specs.Answers.{answer, FitsAnswer, SpellsAnswer};
 ghost use Rattle.wire.specs.Requests.{FitsRequest, request, SpellsRequest};
 ghost use Rattle.wire.specs.Spelling.{frame, u32};
@@ -14,15 +14,23 @@ use crate::writing_messages::{put_answer, put_request};
 use sp_base::{Blob, Memory};
 use std::alloc::Global;
 
-/// Writes the length of what follows over the first four bytes.
+/// Writes a number over the first four bytes.
 #[tactic(auto, unfolding(crate::specs::Spelling::u32))]
+fn write_front(bytes: &mut [u8], n: u32)
+    requires { 4 ≤ length bytes.old }
+    ensures { bytes.new ≡ u32 n ++ drop 4 bytes.old }
+{
+    bytes[..4].copy_from_slice(&n.to_be_bytes());
+}
+
+/// Writes the length of what follows over the first four bytes.
 fn set_length(frame: &mut Vec<u8>)
-    requires some { 4 ≤ vec_len frame.old }
-    requires short { vec_len frame.old < 2 ^ 32 }
-    ensures { frame.new.items ≡ u32 (vec_len frame.old - 4) ++ drop 4 frame.old.items }
+    requires some { 4 ≤ length frame.old.items }
+    requires short { length frame.old.items < 2 ^ 32 }
+    ensures { frame.new.items ≡ u32 (length frame.old.items - 4) ++ drop 4 frame.old.items }
 {
     let n = (frame.len() - 4) as u32;
-    frame.as_mut_slice()[..4].copy_from_slice(&n.to_be_bytes());
+    write_front(frame.as_mut_slice(), n);
 }
 
 /// The whole frame of a request, its length first.
@@ -58,7 +66,8 @@ pub fn share_request(alloc: Global, message: &Request) -> Result<Request, Memory
     ensures { IfOk result (λ again. again ≡ message.now) }
 {
     let frame = encode_request(alloc, message)?;
-    match decode_request(alloc, &frame.bytes()[4..]) {
+    let (_, body) = frame.bytes().split_at(4);
+    match decode_request(alloc, body) {
         Ok(again) => Ok(again),
         Err(WireFault::Memory) => Err(Memory),
         Err(WireFault::Bad { .. }) => unreachable!(),
@@ -72,7 +81,8 @@ pub fn share_answer(alloc: Global, message: &Answer) -> Result<Answer, Memory>
     ensures { IfOk result (λ again. again ≡ message.now) }
 {
     let frame = encode_answer(alloc, message)?;
-    match decode_answer(alloc, &frame.bytes()[4..]) {
+    let (_, body) = frame.bytes().split_at(4);
+    match decode_answer(alloc, body) {
         Ok(again) => Ok(again),
         Err(WireFault::Memory) => Err(Memory),
         Err(WireFault::Bad { .. }) => unreachable!(),
