@@ -152,10 +152,6 @@ pub record FitRights (rs : List (TableId × Level)) : Type 0 where
   pub rights : AreRights rs
   pub tables : AllByRecursion (λ r. IsU32 r.0.0) rs
 
--- the weight of a list of reads: the bytes of its reads
-abbrev pub weight : List ReadItem → ℕ
-weight rs = length (flat_map read rs)
-
 -- a frame: the length of its body in four bytes, and the body
 abbrev pub frame : List ℕ → List ℕ
 frame body = u32 (length body) ++ body
