@@ -1,33 +1,18 @@
 -- The items of answers are read exactly.
-use Rattle.std.proofs.Common.{◌≡◌, ℕ, zero, suc, ◌+◌, ◌-◌, ◌<◌, ◌≤◌, ◌^◌, ◌⊎◌, inl, inr, Bool, List, [], ◌∷◌, ◌++◌, length, take, drop, Result, Ok, Err, refl, sym, ap, subst, ◌∙◌, arith}
-use Rattle.std.specs.List.{flat_map, AllByRecursion}
-use Rattle.std.proofs.lemmas.List.{take-append-drop}
-use Rattle.sp_base.specs.declared.reads.ReadItem.{ReadItem}
-use Rattle.wire.specs.declared.answers.Answer.{Answer}
-use Rattle.wire.specs.declared.answers.Answer.TheVariants.{Welcome, Installed, Answers, Fetched, Finished, PutDone, Text, Fault}
-use Rattle.wire.specs.declared.answers.FetchAnswer.{FetchAnswer}
-use Rattle.wire.specs.declared.answers.FetchAnswer.TheVariants as fetched
-use Rattle.wire.specs.declared.answers.InstallAnswer.{InstallAnswer}
-use Rattle.wire.specs.declared.answers.InstallAnswer.TheVariants as installed
-use Rattle.wire.specs.declared.answers.PutAnswer.{PutAnswer}
-use Rattle.wire.specs.declared.answers.PutAnswer.TheVariants as puts
-use Rattle.wire.specs.declared.answers.TextAnswer.{TextAnswer}
-use Rattle.wire.specs.declared.answers.TextAnswer.TheVariants as texts
+use Rattle.std.proofs.Common.{ℕ, ◌≤◌, inl, inr, List, [], ◌∷◌, ◌++◌, length, refl, ap, arith}
+use Rattle.std.specs.List.{flat_map}
 use Rattle.wire.specs.declared.items.Item.{Item}
 use Rattle.wire.specs.declared.items.Item.TheVariants.{Committed, Stale, Conflict, Pushed, Full, Busy, Repeated, NoExtension, BadBudget, Memory, Foreign, Shape, Lied, NotParked}
-use Rattle.wire.specs.Readers.{Reader, bind, made, done, tagged, arm, no_arm, repeated, all_of}
-use Rattle.wire.specs.Fields.{byte_in, u16_in, read_at, reads_at}
-use Rattle.wire.specs.Messages.{committed_at, stale_at, conflict_at, pushed_at, no_extension_at, batch_item_at, parked_item_at, items_at, installed_at, rejected_at, install_answer_at, found_at, fetch_answer_at, put_answer_at, absent_at, text_answer_at, welcome_at, answer_at}
-use Rattle.wire.specs.Spelling.{u16, u32, u64, IsU32, IsU64, key, long, IsText, outcome, FitsOutcome, read, FitsRead, reads, FitReads, rights, FitRights}
+use Rattle.wire.specs.Readers.{repeated}
+use Rattle.wire.specs.Fields.{byte_in, read_at, reads_at}
+use Rattle.wire.specs.Messages.{committed_at, stale_at, conflict_at, pushed_at, no_extension_at, batch_item_at, parked_item_at, items_at}
+use Rattle.wire.specs.Spelling.{u16, read, reads, FitReads}
 use Rattle.wire.specs.Answers.{item, FitsItem, EndsInBatch, EndsParked, FitsBatchItem, FitsParkedItem, FitItems, install_answer, FitsInstallAnswer, fetch_answer, FitsFetchAnswer, put_answer, FitsPutAnswer, text_answer, FitsTextAnswer, answer, FitsAnswer, SpellsAnswer, BeginsAnswer, LongestAnswer}
 use Rattle.wire.specs.Answers as said
-use Rattle.wire.proofs.Formats.{IsBytes, Reads, Format, Shows, Makes, bind_reads, made_reads, done_reads, repeated_reads, as_format, format_of}
+use Rattle.wire.proofs.Formats.{Reads, Format, Shows, Makes, bind_reads, made_reads, done_reads, repeated_reads, as_format, format_of}
 use Rattle.wire.proofs.Choices.{arms, no_arms, tagged_reads}
-use Rattle.wire.proofs.Digits.{IsIn, byte_reads, u16_reads}
-use Rattle.wire.proofs.Parts.{u32_any, u64_any, key_reads, opt_reads, outcome_reads, read_reads}
-use Rattle.wire.proofs.Tables.{rights_reads}
-use Rattle.wire.proofs.Asking.{text_reads}
-use Rattle.wire.proofs.Ends.{all_found, all_again, all_begins, all_furthest, front_is, not_further}
+use Rattle.wire.proofs.Digits.{byte_reads, u16_reads}
+use Rattle.wire.proofs.Parts.{u32_any, u64_any, key_reads, outcome_reads, read_reads}
 
 -- a byte that is a code
 pub code_reads : (least most : ℕ) → least ≤ most → Reads (byte_in least most) (λ n. n) (λ n. n ∷ []) (said.IsIn least most)

@@ -1,20 +1,18 @@
 -- Requests are read exactly.
-use Rattle.std.proofs.Common.{◌≡◌, ℕ, zero, suc, ◌+◌, ◌-◌, ◌<◌, ◌≤◌, ◌^◌, ◌⊎◌, inl, inr, Bool, List, [], ◌∷◌, ◌++◌, length, take, drop, Result, Ok, Err, refl, sym, ap, subst, ◌∙◌, arith}
-use Rattle.std.specs.List.{flat_map, AllByRecursion}
+use Rattle.std.proofs.Common.{◌≡◌, ℕ, ◌-◌, inl, inr, List, ◌∷◌, ◌++◌, length, take, drop, Ok, Err, refl, sym, ap, ◌∙◌, arith}
+use Rattle.std.specs.List.{flat_map}
 use Rattle.std.proofs.lemmas.List.{take-append-drop}
 use Rattle.sp_base.specs.declared.calls.Asked.{Asked}
-use Rattle.sp_base.specs.declared.outcomes.Outcome.{Outcome}
-use Rattle.sp_base.specs.declared.writes.Write.{Write}
 use Rattle.wire.specs.declared.requests.Request.{Request}
 use Rattle.wire.specs.declared.requests.Request.TheVariants.{Hello, Install, Batch, Fetch, Finish, Put, TextOf, Bye}
-use Rattle.wire.specs.Readers.{Reader, bind, made, done, tagged, arm, no_arm, repeated, all_of}
-use Rattle.wire.specs.Fields.{byte_in, u16_in, long_at, asked_at, calls_at, write_at, writes_at}
+use Rattle.wire.specs.Readers.{repeated, all_of}
+use Rattle.wire.specs.Fields.{long_at, asked_at, calls_at, write_at, writes_at}
 use Rattle.wire.specs.Messages.{hello_at, fetch_at, finish_at, put_at, request_at}
-use Rattle.wire.specs.Spelling.{u16, u32, u64, IsU32, IsU64, key, long, IsText, outcome, FitsOutcome, write, FitsWrite, writes, FitWrites, asked, FitsAsked, asked_calls, FitCalls}
-use Rattle.wire.specs.Requests.{request, FitsRequest, SpellsRequest, BeginsRequest, LongestRequest}
+use Rattle.wire.specs.Spelling.{u16, long, IsText, write, writes, FitWrites, asked, FitsAsked, asked_calls, FitCalls}
+use Rattle.wire.specs.Requests.{request, FitsRequest, SpellsRequest, LongestRequest}
 use Rattle.wire.proofs.Formats.{IsBytes, Reads, Format, Shows, Makes, bind_reads, made_reads, done_reads, repeated_reads, as_format, format_of}
 use Rattle.wire.proofs.Choices.{arms, no_arms, tagged_reads}
-use Rattle.wire.proofs.Digits.{IsIn, byte_reads, u16_reads}
+use Rattle.wire.proofs.Digits.{byte_reads, u16_reads}
 use Rattle.wire.proofs.Parts.{u32_any, u64_any, key_reads, long_reads, short_reads, value_reads, flag_reads, outcome_reads, write_reads}
 use Rattle.wire.proofs.Ends.{all_found, all_again, all_begins, all_furthest, front_is, not_further}
 

@@ -1,10 +1,10 @@
 -- A choice by a byte: each arm reads a format of its own.
-use Rattle.std.proofs.Common.{◌≡◌, ◌≢◌, ℕ, zero, suc, ◌+◌, ◌-◌, ◌<◌, ◌≤◌, ◌⊎◌, inl, inr, Bool, true, false, cond, eqb, List, [], ◌∷◌, ◌++◌, length, get_or, Result, Ok, Err, refl, sym, ap, subst, ◌∙◌, append_assoc, arith}
+use Rattle.std.proofs.Common.{◌≡◌, ℕ, suc, ◌+◌, ◌<◌, ◌≤◌, ◌⊎◌, inl, inr, Bool, true, false, cond, eqb, List, [], ◌∷◌, ◌++◌, length, Ok, Err, refl, sym, ap, subst, ◌∙◌, arith}
 use Rattle.std.proofs.lemmas.Bool.{eq-eqb}
 use Rattle.std.proofs.lemmas.Bool.Decides.{eqb_tells}
-use Rattle.std.proofs.lemmas.List.{append-nil, length-append}
-use Rattle.wire.specs.Readers.{Reader, ◌>>=◌, bind, made, done, tagged, arm, no_arm}
-use Rattle.wire.proofs.Formats.{IsBytes, Begins, Furthest, Reads, ok_is, ok_err}
+use Rattle.std.proofs.lemmas.List.{length-append}
+use Rattle.wire.specs.Readers.{Reader, tagged, arm, no_arm}
+use Rattle.wire.proofs.Formats.{IsBytes, Begins, Furthest, Reads, ok_err}
 
 abbrev pub either : {A B X : Type 0} → (A → X) → (B → X) → A ⊎ B → X
 either f g (inl x) = f x

@@ -1,14 +1,14 @@
 -- Numbers and runs of bytes are read exactly.
-use Rattle.std.proofs.Common.{◌≡◌, ℕ, zero, suc, ◌+◌, ◌-◌, ◌*◌, ◌/◌, ◌%◌, ◌^◌, ◌<◌, ◌≤◌, min, ◌⊎◌, inl, inr, Bool, true, false, cond, ltb, List, [], ◌∷◌, ◌++◌, length, get_or, take, drop, Result, Ok, Err, refl, sym, ap, subst, ◌∙◌, append_assoc, arith}
+use Rattle.std.proofs.Common.{◌≡◌, ℕ, zero, suc, ◌+◌, ◌-◌, ◌*◌, ◌/◌, ◌%◌, ◌^◌, ◌<◌, ◌≤◌, ◌⊎◌, inl, inr, cond, ltb, List, [], ◌∷◌, ◌++◌, length, get_or, take, drop, Result, Ok, Err, refl, sym, ap, subst, ◌∙◌, arith}
 use Rattle.std.specs.Prelude.{replicate}
-use Rattle.std.specs.Int.{Width, w8, w16, w32, w64, byte_len, from_be_bytes, to_be_bytes}
-use Rattle.std.proofs.lemmas.Bool.{cases_lt, ltb-false, ltb-true, le-ltb, lt-ltb}
-use Rattle.std.proofs.lemmas.List.{take_at, drop_at, take-append-drop, length-append, length-take, get_or-drop, get_or-take, get_or_past, length-replicate, append-nil}
+use Rattle.std.specs.Int.{Width, w32, w64, byte_len, from_be_bytes, to_be_bytes}
+use Rattle.std.proofs.lemmas.Bool.{cases_lt, le-ltb, lt-ltb}
+use Rattle.std.proofs.lemmas.List.{take_at, drop_at, take-append-drop, length-append, length-take, get_or-take, get_or_past, length-replicate, append-nil}
 use Rattle.std.proofs.lemmas.Nat.{be_bytes_2, be_bytes_4, be_bytes_8, from_be_bytes-to_be_bytes_4, from_be_bytes-to_be_bytes_8}
-use Rattle.wire.specs.Readers.{Reader, ◌>>=◌, bind, made, done}
+use Rattle.wire.specs.Readers.{made}
 use Rattle.wire.specs.Fields.{byte_in, number_at, bytes_at, low_least, low_most, u16_in, u32_in}
-use Rattle.wire.specs.Spelling.{u16, u32, u64, IsU32, IsU64}
-use Rattle.wire.proofs.Formats.{IsBytes, Begins, Furthest, Reads, Format, Shows, Makes, ok_is, ok_err, bind_reads, made_reads, done_reads, as_value, as_format, format_of}
+use Rattle.wire.specs.Spelling.{u16, u32}
+use Rattle.wire.proofs.Formats.{IsBytes, Begins, Reads, Format, Shows, Makes, ok_is, ok_err, bind_reads, made_reads, as_format, format_of}
 
 -- ---- a byte
 

@@ -1,10 +1,10 @@
 -- A reader of all of the bytes: what it reads is what they spell, and it fails behind their longest
 -- part that begins a spelling.
-use Rattle.std.proofs.Common.{◌≡◌, ℕ, zero, suc, ◌+◌, ◌-◌, ◌<◌, ◌≤◌, ◌⊎◌, inl, inr, Bool, true, false, cond, eqb, List, [], ◌∷◌, ◌++◌, length, take, drop, Result, Ok, Err, refl, sym, ap, subst, ◌∙◌, append_assoc, arith}
-use Rattle.std.proofs.lemmas.List.{append-nil, length-append, length-drop, take-append-drop, take_at, nil_from_length}
+use Rattle.std.proofs.Common.{◌≡◌, ℕ, ◌-◌, ◌≤◌, inl, inr, Bool, true, false, cond, eqb, List, [], ◌++◌, length, take, drop, Result, Ok, Err, refl, sym, ap, subst, ◌∙◌, arith}
+use Rattle.std.proofs.lemmas.List.{append-nil, length-append, length-drop, take_at, nil_from_length}
 use Rattle.std.proofs.lemmas.Bool.{eqb-true}
 use Rattle.wire.specs.Readers.{Reader, ◌>>=◌, all_of}
-use Rattle.wire.proofs.Formats.{IsBytes, Begins, Furthest, Reads, bind_ok, bind_err, ok_is, ok_err, not_past}
+use Rattle.wire.proofs.Formats.{IsBytes, Begins, Furthest, Reads, bind_ok, bind_err, not_past}
 
 abbrev rest_test : {A : Type 0} → A × List ℕ → Result A ℕ
 rest_test x = cond (eqb (length x.1) 0) (Ok x.0) (Err (length x.1))

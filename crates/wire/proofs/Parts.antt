@@ -1,9 +1,7 @@
 -- The fields of messages are read exactly, by their spelling.
-use Rattle.std.proofs.Common.{◌≡◌, ℕ, zero, suc, ◌+◌, ◌-◌, ◌<◌, ◌≤◌, ◌^◌, ◌⊎◌, inl, inr, Bool, true, false, ◌==◌, List, [], ◌∷◌, ◌++◌, length, Option, Some, None, Result, Ok, Err, refl, sym, ap, subst, ◌∙◌, append_assoc, arith}
-use Rattle.std.specs.List.{flat_map, AllByRecursion}
+use Rattle.std.proofs.Common.{◌≡◌, ℕ, zero, suc, ◌<◌, ◌≤◌, ◌^◌, ◌⊎◌, inl, inr, Bool, true, false, ◌==◌, List, [], ◌∷◌, ◌++◌, length, Option, Some, None, refl, sym, ap, subst, arith}
 use Rattle.std.specs.Int.{w32, w64}
-use Rattle.sp_base.specs.Limits.{IsKey, IsValue, IsArguments}
-use Rattle.sp_base.specs.declared.calls.Asked.{Asked}
+use Rattle.sp_base.specs.Limits.{IsKey, IsValue}
 use Rattle.sp_base.specs.declared.outcomes.Outcome.{Outcome}
 use Rattle.sp_base.specs.declared.outcomes.Outcome.TheVariants.{Done, Trapped, Killed}
 use Rattle.sp_base.specs.declared.outcomes.Trap.{Trap}
@@ -12,10 +10,10 @@ use Rattle.sp_base.specs.declared.reads.ReadItem.{ReadItem}
 use Rattle.sp_base.specs.declared.writes.Change.{Change}
 use Rattle.sp_base.specs.declared.writes.Change.TheVariants as changes
 use Rattle.sp_base.specs.declared.writes.Write.{Write}
-use Rattle.wire.specs.Readers.{Reader, bind, made, done, tagged, arm, no_arm, repeated}
-use Rattle.wire.specs.Fields.{byte_in, number_at, bytes_at, u16_in, key_at, long_at, flag_at, opt_at, trap_of, done_at, outcome_at, change_of, change_at, write_at, read_at, asked_at, writes_at, reads_at, calls_at}
-use Rattle.wire.specs.Spelling.{u16, u32, u64, IsU32, IsU64, key, long, flag, opt, FitsOpt, trap_number, outcome, FitsOutcome, change, FitsChange, write, FitsWrite, read, FitsRead, asked, FitsAsked, writes, FitWrites, reads, FitReads, asked_calls, FitCalls}
-use Rattle.wire.proofs.Formats.{Reads, Format, Shows, Makes, bind_reads, made_reads, done_reads, repeated_reads, as_format, format_of}
+use Rattle.wire.specs.Readers.{bind, made}
+use Rattle.wire.specs.Fields.{number_at, bytes_at, key_at, long_at, flag_at, opt_at, trap_of, done_at, outcome_at, change_of, change_at, write_at, read_at}
+use Rattle.wire.specs.Spelling.{u16, u32, u64, IsU32, IsU64, key, long, flag, opt, FitsOpt, trap_number, outcome, FitsOutcome, change, FitsChange, write, FitsWrite, read, FitsRead}
+use Rattle.wire.proofs.Formats.{Reads, Format, Shows, Makes, bind_reads, made_reads, done_reads, as_format, format_of}
 use Rattle.wire.proofs.Choices.{arms, no_arms, tagged_reads}
 use Rattle.wire.proofs.Digits.{IsIn, byte_reads, bytes_reads, number_reads, wide32, wide64, u16_reads}
 

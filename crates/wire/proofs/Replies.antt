@@ -1,9 +1,6 @@
 -- Answers are read exactly.
-use Rattle.std.proofs.Common.{◌≡◌, ℕ, zero, suc, ◌+◌, ◌-◌, ◌<◌, ◌≤◌, ◌^◌, ◌⊎◌, inl, inr, Bool, List, [], ◌∷◌, ◌++◌, length, take, drop, Result, Ok, Err, refl, sym, ap, subst, ◌∙◌, arith}
-use Rattle.std.specs.List.{flat_map, AllByRecursion}
+use Rattle.std.proofs.Common.{◌≡◌, ℕ, ◌-◌, inl, inr, List, ◌++◌, length, take, drop, Ok, Err, refl, sym, ap, ◌∙◌, arith}
 use Rattle.std.proofs.lemmas.List.{take-append-drop}
-use Rattle.sp_base.specs.declared.numbers.TableId.{TableId}
-use Rattle.sp_base.specs.declared.rights.Level.{Level}
 use Rattle.wire.specs.declared.answers.Answer.{Answer}
 use Rattle.wire.specs.declared.answers.Answer.TheVariants.{Welcome, Installed, Answers, Fetched, Finished, PutDone, Text, Fault}
 use Rattle.wire.specs.declared.answers.FetchAnswer.{FetchAnswer}
@@ -14,18 +11,13 @@ use Rattle.wire.specs.declared.answers.PutAnswer.{PutAnswer}
 use Rattle.wire.specs.declared.answers.PutAnswer.TheVariants as puts
 use Rattle.wire.specs.declared.answers.TextAnswer.{TextAnswer}
 use Rattle.wire.specs.declared.answers.TextAnswer.TheVariants as texts
-use Rattle.wire.specs.declared.items.Item.{Item}
-use Rattle.wire.specs.declared.items.Item.TheVariants.{Committed, Stale, Conflict, Pushed, Full, Busy, Repeated, NoExtension, BadBudget, Memory, Foreign, Shape, Lied, NotParked}
-use Rattle.wire.specs.Readers.{Reader, bind, made, done, tagged, arm, no_arm, repeated, all_of}
-use Rattle.wire.specs.Fields.{byte_in, u16_in, read_at, reads_at}
-use Rattle.wire.specs.Messages.{committed_at, stale_at, conflict_at, pushed_at, no_extension_at, batch_item_at, parked_item_at, items_at, installed_at, rejected_at, install_answer_at, found_at, fetch_answer_at, put_answer_at, absent_at, text_answer_at, welcome_at, answer_at}
-use Rattle.wire.specs.Spelling.{u16, u32, u64, IsU32, IsU64, key, long, IsText, outcome, FitsOutcome, read, FitsRead, reads, FitReads, rights, FitRights}
-use Rattle.wire.specs.Answers.{item, FitsItem, EndsInBatch, EndsParked, FitsBatchItem, FitsParkedItem, FitItems, install_answer, FitsInstallAnswer, fetch_answer, FitsFetchAnswer, put_answer, FitsPutAnswer, text_answer, FitsTextAnswer, answer, FitsAnswer, SpellsAnswer, BeginsAnswer, LongestAnswer}
-use Rattle.wire.specs.Answers as said
-use Rattle.wire.proofs.Formats.{IsBytes, Reads, Format, Shows, Makes, bind_reads, made_reads, done_reads, repeated_reads, as_format, format_of}
+use Rattle.wire.specs.Readers.{all_of}
+use Rattle.wire.specs.Fields.{read_at}
+use Rattle.wire.specs.Messages.{installed_at, rejected_at, install_answer_at, found_at, fetch_answer_at, put_answer_at, absent_at, text_answer_at, welcome_at, answer_at}
+use Rattle.wire.specs.Answers.{install_answer, FitsInstallAnswer, fetch_answer, FitsFetchAnswer, put_answer, FitsPutAnswer, text_answer, FitsTextAnswer, answer, FitsAnswer, SpellsAnswer, LongestAnswer}
+use Rattle.wire.proofs.Formats.{IsBytes, Reads, Format, Shows, Makes, bind_reads, made_reads, done_reads, as_format, format_of}
 use Rattle.wire.proofs.Choices.{arms, no_arms, tagged_reads}
-use Rattle.wire.proofs.Digits.{IsIn, byte_reads, u16_reads}
-use Rattle.wire.proofs.Parts.{u32_any, u64_any, key_reads, opt_reads, outcome_reads, read_reads}
+use Rattle.wire.proofs.Parts.{u32_any, u64_any, opt_reads}
 use Rattle.wire.proofs.Tables.{rights_reads}
 use Rattle.wire.proofs.Asking.{text_reads}
 use Rattle.wire.proofs.Answering.{code_reads, items_reads, parked_item_reads}

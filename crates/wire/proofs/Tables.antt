@@ -1,15 +1,15 @@
 -- Lists of rights are read exactly.
-use Rattle.std.proofs.Common.{◌≡◌, ◌≢◌, ℕ, zero, suc, ◌+◌, ◌-◌, ◌<◌, ◌≤◌, ◌^◌, List, [], ◌∷◌, ◌++◌, length, Result, Ok, Err, refl, sym, ap, subst, ◌∙◌, append_assoc, arith}
+use Rattle.std.proofs.Common.{◌≡◌, ◌≢◌, ℕ, zero, suc, ◌+◌, ◌-◌, ◌<◌, ◌≤◌, ◌^◌, List, [], ◌∷◌, ◌++◌, length, Ok, refl, sym, ap, subst, arith}
 use Rattle.std.specs.List.{flat_map, AllByRecursion}
 use Rattle.std.proofs.lemmas.List.Concat.{flat_map-cons}
 use Rattle.sp_base.specs.RightsList.{RisesFrom, AreRights}
 use Rattle.sp_base.specs.declared.numbers.TableId.{TableId}
 use Rattle.sp_base.specs.declared.rights.Level.{Level}
 use Rattle.sp_base.specs.declared.rights.Level.TheVariants as levels
-use Rattle.wire.specs.Readers.{Reader, bind, made, done}
-use Rattle.wire.specs.Fields.{byte_in, u32_in, level_of_number, right_in, tables_from, rights_at}
+use Rattle.wire.specs.Readers.{made}
+use Rattle.wire.specs.Fields.{byte_in, level_of_number, right_in, tables_from, rights_at}
 use Rattle.wire.specs.Spelling.{u32, IsU32, level_number, right, rights, FitRights}
-use Rattle.wire.proofs.Formats.{IsBytes, IsBytes-behind, Reads, Format, Shows, Makes, bind_reads, made_reads, done_reads, as_value, as_format, format_of}
+use Rattle.wire.proofs.Formats.{IsBytes, IsBytes-behind, Reads, Format, bind_reads, made_reads, done_reads, as_value, as_format, format_of}
 use Rattle.wire.proofs.Digits.{IsIn, byte_reads, u32_reads}
 
 abbrev FitsRight : ℕ → ℕ → TableId × Level → Type 0

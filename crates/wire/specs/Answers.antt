@@ -1,7 +1,7 @@
 -- The one spelling of each answer, and which answers have one.
 use Rattle.std.specs.Prelude.{◌≡◌, ℕ, ◌≤◌, List, [], ◌∷◌, ◌++◌, length, take}
 use Rattle.std.specs.List.{flat_map, AllByRecursion}
-use Rattle.sp_base.specs.Limits.{IsKey, IsValue}
+use Rattle.sp_base.specs.Limits.{IsKey}
 use Rattle.wire.specs.declared.answers.Answer.{Answer}
 use Rattle.wire.specs.declared.answers.Answer.TheVariants.{Welcome, Installed, Answers, Fetched, Finished, PutDone, Text, Fault}
 use Rattle.wire.specs.declared.answers.FetchAnswer.{FetchAnswer}

@@ -1,7 +1,6 @@
 -- Reading from left to right. A reader takes a value from the front and leaves the bytes behind it, or
 -- it says how many bytes are left from the first bad one on: none where the bytes end too early.
-use Rattle.std.specs.Prelude.{◌≡◌, ℕ, zero, suc, ◌+◌, List, [], ◌∷◌, length, take, drop, Result, Ok, Err, nat_lt, ◌==◌, if◌then◌else◌}
-use Rattle.std.specs.Int.{Width, byte_len, from_be_bytes}
+use Rattle.std.specs.Prelude.{◌≡◌, ℕ, zero, suc, ◌+◌, List, [], ◌∷◌, length, Result, Ok, Err, ◌==◌, if◌then◌else◌}
 use Rattle.wire.specs.declared.faults.ReadFault.{ReadFault}
 use Rattle.wire.specs.declared.faults.ReadFault.TheVariants as faults
 

@@ -1,8 +1,7 @@
-use Rattle.std.proofs.Common.{◌≡◌, ◌-◌, ℕ, Ok, length, sym, ap, subst, ◌∙◌, arith}
+use Rattle.std.proofs.Common.{◌≡◌, ◌-◌, length, sym, subst, ◌∙◌, arith}
 use Rattle.wire.specs.Readers.{all_of}
 use Rattle.wire.specs.Messages.{answer_at}
-use Rattle.wire.specs.Answers.{LongestAnswer, SpellsAnswer}
-use Rattle.wire.specs.declared.answers.Answer.{Answer}
+use Rattle.wire.specs.Answers.{LongestAnswer}
 use Rattle.wire.proofs.Formats.{ok_is, ok_err}
 use Rattle.wire.proofs.Replies.{answer_found, answer_again, answer_longest}
 use Rattle.wire.proofs.decode.decode_answer.Goals as goal

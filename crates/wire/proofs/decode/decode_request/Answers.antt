@@ -1,8 +1,7 @@
-use Rattle.std.proofs.Common.{◌≡◌, ◌-◌, ℕ, Ok, length, sym, ap, subst, ◌∙◌, arith}
+use Rattle.std.proofs.Common.{◌≡◌, ◌-◌, length, sym, subst, ◌∙◌, arith}
 use Rattle.wire.specs.Readers.{all_of}
 use Rattle.wire.specs.Messages.{request_at}
-use Rattle.wire.specs.Requests.{LongestRequest, SpellsRequest}
-use Rattle.wire.specs.declared.requests.Request.{Request}
+use Rattle.wire.specs.Requests.{LongestRequest}
 use Rattle.wire.proofs.Formats.{ok_is, ok_err}
 use Rattle.wire.proofs.Asking.{request_found, request_again, request_longest}
 use Rattle.wire.proofs.decode.decode_request.Goals as goal

@@ -1,5 +1,4 @@
-use Rattle.std.proofs.Common.{◌≡◌, ◌++◌, ap, sym, ◌∙◌, append_assoc, arith}
-use Rattle.wire.specs.Spelling.{u32}
+use Rattle.std.proofs.Common.{◌∙◌, arith}
 use Rattle.wire.specs.Requests.{request}
 use Rattle.wire.proofs.Framed.{framed, length_zeros, starts}
 use Rattle.wire.proofs.encode.encode_request.Goals as goal

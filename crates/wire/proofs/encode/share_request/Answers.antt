@@ -1,4 +1,4 @@
-use Rattle.std.proofs.Common.{◌≡◌, ap, sym, ◌∙◌, drop, arith}
+use Rattle.std.proofs.Common.{◌≡◌, ◌∙◌}
 use Rattle.wire.specs.Requests.{request, SpellsRequest}
 use Rattle.wire.proofs.Framed.{body_of, frame_long}
 use Rattle.wire.proofs.encode.share_request.Goals as goal

@@ -1,5 +1,4 @@
 use Rattle.std.proofs.Common.{arith}
-use Rattle.sp_base.specs.RightsList.{AreRights}
 use Rattle.wire.proofs.Tables.{rights_read}
 use Rattle.wire.proofs.granted.rights.Goals as goal
 
