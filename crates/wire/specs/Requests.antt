@@ -5,16 +5,30 @@ use Rattle.wire.specs.declared.requests.Request.{Request}
 use Rattle.wire.specs.declared.requests.Request.TheVariants.{Hello, Install, Batch, Fetch, Finish, Put, TextOf, Bye}
 use Rattle.wire.specs.Spelling.{u32, u64, IsU32, IsU64, key, long, IsText, outcome, FitsOutcome, writes, FitWrites, asked_calls, FitCalls}
 
--- a byte of kind, and the fields
+abbrev pub request_kind : Request → ℕ
+request_kind (Hello tenant secret) = 1
+request_kind (Install text) = 2
+request_kind (Batch calls) = 3
+request_kind (Fetch caller number table place) = 4
+request_kind (Finish caller number ended changed) = 5
+request_kind (Put table place value) = 6
+request_kind (TextOf ext) = 7
+request_kind Bye = 8
+
+abbrev pub request_fields : Request → List ℕ
+request_fields (Hello tenant secret) = u32 tenant.0 ++ u64 secret
+request_fields (Install text) = long text
+request_fields (Batch calls) = asked_calls calls
+request_fields (Fetch caller number table place) = u32 caller ++ (u64 number.0 ++ (u32 table.0 ++ key place))
+request_fields (Finish caller number ended changed) =
+    u32 caller ++ (u64 number.0 ++ (outcome ended ++ writes changed))
+request_fields (Put table place value) = u32 table.0 ++ (key place ++ long value)
+request_fields (TextOf ext) = u32 ext.0
+request_fields Bye = []
+
+-- a request: a byte of kind, and the fields
 abbrev pub request : Request → List ℕ
-request (Hello tenant secret) = 1 ∷ (u32 tenant.0 ++ u64 secret)
-request (Install text) = 2 ∷ long text
-request (Batch calls) = 3 ∷ asked_calls calls
-request (Fetch caller number table place) = 4 ∷ (u32 caller ++ (u64 number.0 ++ (u32 table.0 ++ key place)))
-request (Finish caller number ended changed) = 5 ∷ (u32 caller ++ (u64 number.0 ++ (outcome ended ++ writes changed)))
-request (Put table place value) = 6 ∷ (u32 table.0 ++ (key place ++ long value))
-request (TextOf ext) = 7 ∷ u32 ext.0
-request Bye = 8 ∷ []
+request message = request_kind message ∷ request_fields message
 
 -- each field is within its range
 abbrev pub FitsRequest : Request → Type 0

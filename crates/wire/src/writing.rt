@@ -31,6 +31,22 @@ pub fn put_u64(out: &mut Vec<u8>, n: u64) -> Result<(), Memory>
     Ok(())
 }
 
+/// Adds two numbers of eight bytes.
+pub fn put_two(out: &mut Vec<u8>, first: u64, second: u64) -> Result<(), Memory>
+    ensures { OnOk result (out.new.items ≡ out.old.items ++ (u64 first ++ u64 second)) }
+{
+    put_u64(out, first)?;
+    put_u64(out, second)
+}
+
+/// Adds a count of four bytes, and a moment of eight.
+pub fn put_count(out: &mut Vec<u8>, count: u32, at: u64) -> Result<(), Memory>
+    ensures { OnOk result (out.new.items ≡ out.old.items ++ (u32 count ++ u64 at)) }
+{
+    put_u32(out, count)?;
+    put_u64(out, at)
+}
+
 /// Adds a key behind its length.
 pub fn put_key(out: &mut Vec<u8>, name: &Key) -> Result<(), Memory>
     ensures { OnOk result (out.new.items ≡ out.old.items ++ key name.now) }

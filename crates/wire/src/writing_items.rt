@@ -2,7 +2,7 @@ ghost use Rattle.std.specs.Prelude.{◌≡◌, ◌≤◌, ◌++◌, OnOk};
 ghost use Rattle.wire.specs.Answers.{FitsItem, item, item_fields, item_tag};
 
 use crate::items::Item;
-use crate::writing::{put_key, put_outcome, put_u32, put_u64};
+use crate::writing::{put_count, put_key, put_outcome, put_two, put_u32, put_u64};
 use crate::writing_lists::put_reads;
 use bytes::BufMut;
 use sp_base::Memory;
@@ -46,10 +46,7 @@ fn put_item_fields(out: &mut Vec<u8>, ended: &Item) -> Result<(), Memory>
             put_u64(out, *n)?;
             put_outcome(out, outcome)
         }
-        Item::Stale { last, at } => {
-            put_u64(out, *last)?;
-            put_u64(out, *at)
-        }
+        Item::Stale { last, at } => put_two(out, *last, *at),
         Item::Conflict {
             table,
             key,
@@ -62,8 +59,7 @@ fn put_item_fields(out: &mut Vec<u8>, ended: &Item) -> Result<(), Memory>
             put_key(out, key)?;
             put_u64(out, *read)?;
             put_u64(out, *read_at)?;
-            put_u64(out, *now)?;
-            put_u64(out, *now_at)
+            put_two(out, *now, *now_at)
         }
         Item::Pushed { load, spent, reads } => {
             put_u32(out, *load)?;
@@ -72,10 +68,7 @@ fn put_item_fields(out: &mut Vec<u8>, ended: &Item) -> Result<(), Memory>
         }
         Item::Full { at } => put_u64(out, *at),
         Item::Busy { number } => put_u64(out, number.0),
-        Item::NoExtension { count, at } => {
-            put_u32(out, *count)?;
-            put_u64(out, *at)
-        }
+        Item::NoExtension { count, at } => put_count(out, *count, *at),
         Item::Foreign { table } => put_u32(out, table.0),
         Item::Shape { code } => {
             out.put_u8(*code)?;

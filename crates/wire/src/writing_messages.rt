@@ -1,41 +1,56 @@
 ghost use Rattle.std.specs.Prelude.{◌≡◌, ◌++◌, OnOk};
 ghost use Rattle.wire.specs.Answers.{answer, fetch_answer, FitsAnswer, FitsFetchAnswer, FitsInstallAnswer, FitsPutAnswer, FitsTextAnswer, install_answer, put_answer, text_answer};
-ghost use Rattle.wire.specs.Requests.{FitsRequest, request};
+ghost use Rattle.wire.specs.Requests.{FitsRequest, request, request_fields, request_kind};
 
 use crate::answers::{Answer, FetchAnswer, InstallAnswer, PutAnswer, TextAnswer};
 use crate::requests::Request;
-use crate::writing::{put_key, put_long, put_optional, put_outcome, put_u32, put_u64};
+use crate::writing::{put_count, put_key, put_long, put_optional, put_outcome, put_u32, put_u64};
 use crate::writing_items::put_item;
 use crate::writing_lists::{put_calls, put_items, put_rights, put_writes};
 use bytes::BufMut;
 use sp_base::Memory;
+
+fn kind_of(message: &Request) -> u8
+    ensures { result ≡ request_kind message.now }
+{
+    match message {
+        Request::Hello { .. } => 1,
+        Request::Install { .. } => 2,
+        Request::Batch { .. } => 3,
+        Request::Fetch { .. } => 4,
+        Request::Finish { .. } => 5,
+        Request::Put { .. } => 6,
+        Request::TextOf { .. } => 7,
+        Request::Bye => 8,
+    }
+}
 
 /// Adds a request's kind and fields.
 pub fn put_request(out: &mut Vec<u8>, message: &Request) -> Result<(), Memory>
     requires { FitsRequest message.now }
     ensures { OnOk result (out.new.items ≡ out.old.items ++ request message.now) }
 {
+    out.put_u8(kind_of(message))?;
+    put_request_fields(out, message)
+}
+
+fn put_request_fields(out: &mut Vec<u8>, message: &Request) -> Result<(), Memory>
+    requires { FitsRequest message.now }
+    ensures { OnOk result (out.new.items ≡ out.old.items ++ request_fields message.now) }
+{
     match message {
         Request::Hello { tenant, key } => {
-            out.put_u8(1)?;
             put_u32(out, tenant.0)?;
             put_u64(out, *key)
         }
-        Request::Install { text } => {
-            out.put_u8(2)?;
-            put_long(out, text.bytes())
-        }
-        Request::Batch { calls } => {
-            out.put_u8(3)?;
-            put_calls(out, calls)
-        }
+        Request::Install { text } => put_long(out, text.bytes()),
+        Request::Batch { calls } => put_calls(out, calls),
         Request::Fetch {
             caller,
             number,
             table,
             key,
         } => {
-            out.put_u8(4)?;
             put_u32(out, *caller)?;
             put_u64(out, number.0)?;
             put_u32(out, table.0)?;
@@ -47,26 +62,18 @@ pub fn put_request(out: &mut Vec<u8>, message: &Request) -> Result<(), Memory>
             outcome,
             writes,
         } => {
-            out.put_u8(5)?;
             put_u32(out, *caller)?;
             put_u64(out, number.0)?;
             put_outcome(out, outcome)?;
             put_writes(out, writes)
         }
         Request::Put { table, key, value } => {
-            out.put_u8(6)?;
             put_u32(out, table.0)?;
             put_key(out, key)?;
             put_long(out, value.bytes())
         }
-        Request::TextOf { ext } => {
-            out.put_u8(7)?;
-            put_u32(out, ext.0)
-        }
-        Request::Bye => {
-            out.put_u8(8)?;
-            Ok(())
-        }
+        Request::TextOf { ext } => put_u32(out, ext.0),
+        Request::Bye => Ok(()),
     }
 }
 
@@ -155,8 +162,7 @@ fn put_text_answer(out: &mut Vec<u8>, given: &TextAnswer) -> Result<(), Memory>
         }
         TextAnswer::NoExtension { count, at } => {
             out.put_u8(1)?;
-            put_u32(out, *count)?;
-            put_u64(out, *at)
+            put_count(out, *count, *at)
         }
         TextAnswer::Memory => {
             out.put_u8(3)?;
