@@ -1,0 +1,10 @@
+//! Frames out of a stream of bytes, in whatever pieces it comes.
+#![tactic(auto)]
+
+mod cutting;
+mod framer;
+
+pub use framer::{FrameFault, Framer, one_reading};
+
+#[cfg(test)]
+mod tests;

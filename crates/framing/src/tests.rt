@@ -1,0 +1,71 @@
+ghost use Rattle.std.specs.Prelude.{◌≤◌};
+
+use super::*;
+use std::alloc::Global;
+use std::process::Abort;
+use std::test::Fail;
+
+/// Hello of tenant 1 with key 7.
+const HELLO: [u8; 17] = [0, 0, 0, 13, 1, 0, 0, 0, 1, 0, 0, 0, 0, 0, 0, 0, 7];
+
+fn cut_hello(rt: &impl Abort, alloc: Global, at: usize) -> Result<(), Fail>
+    requires { at ≤ 16 }
+{
+    let mut framer = Framer::new(alloc);
+    assert_eq!(rt; framer.feed(&HELLO[..at])?.len(), 0);
+    assert_eq!(rt; framer.pending() as usize, at);
+    let bodies = framer.feed(&HELLO[at..])?;
+    assert_eq!(rt; bodies.len(), 1);
+    for body in &bodies {
+        assert_eq!(rt; body.bytes(), &HELLO[4..]);
+    }
+    assert_eq!(rt; framer.pending(), 0);
+    Ok(())
+}
+
+#[test]
+fn a_frame_is_found_wherever_it_is_cut(rt: HostRuntime) -> Result<(), Fail> {
+    for at in 0..17 {
+        cut_hello(&rt, rt.alloc(), at)?;
+    }
+    Ok(())
+}
+
+#[test]
+fn frames_of_one_piece_come_in_order(rt: HostRuntime) -> Result<(), Fail> {
+    let mut framer = Framer::new(rt.alloc());
+    let bodies = framer.feed(&[0, 0, 0, 2, 72, 1, 0, 0, 0, 0, 0, 0, 0, 1, 8, 0, 0])?;
+    assert_eq!(rt; bodies.len(), 3);
+    let wanted = [[72u8, 1].as_slice(), &[], &[8]];
+    for (body, bytes) in bodies.iter().zip(wanted.iter()) {
+        assert_eq!(rt; body.bytes(), *bytes);
+    }
+    assert_eq!(rt; framer.pending(), 2);
+    Ok(())
+}
+
+#[test]
+fn a_length_of_8388608_waits_and_one_more_is_too_long(rt: HostRuntime) -> Result<(), Fail> {
+    let mut framer = Framer::new(rt.alloc());
+    assert_eq!(rt; framer.feed(&[0, 0x80, 0, 0])?.len(), 0);
+    assert_eq!(rt; framer.broken(), None);
+    let mut framer = Framer::new(rt.alloc());
+    assert_eq!(rt; framer.feed(&[0, 0, 0, 0, 0, 0x80, 0])?.len(), 1);
+    let over = FrameFault::TooLong { n: 8_388_609 };
+    assert_eq!(rt; framer.feed(&[1]).err(), Some(over));
+    assert_eq!(rt; framer.feed(&HELLO).err(), Some(over));
+    assert_eq!(rt; framer.broken(), Some(8_388_609));
+    assert_eq!(rt; framer.pending(), 0);
+    Ok(())
+}
+
+#[test]
+fn frames_before_a_length_too_long_are_given(rt: HostRuntime) -> Result<(), Fail> {
+    let mut framer = Framer::new(rt.alloc());
+    let bodies = framer.feed(&[0, 0, 0, 1, 8, 255, 255, 255, 255, 9])?;
+    assert_eq!(rt; bodies.len(), 1);
+    assert_eq!(rt; framer.broken(), Some(u32::MAX));
+    let over = FrameFault::TooLong { n: u32::MAX };
+    assert_eq!(rt; framer.feed(&[]).err(), Some(over));
+    Ok(())
+}

@@ -1,0 +1,11 @@
+pub mod Formats
+pub mod Choices
+pub mod Digits
+pub mod Parts
+pub mod Tables
+pub mod Loops
+pub mod Ends
+pub mod Asking
+pub mod Answering
+pub mod Replies
+pub mod Framed

@@ -1,0 +1,7 @@
+use Rattle.std.proofs.Common.{◌≡◌, ◌++◌, take}
+use Rattle.std.specs.List.{flat_map}
+use Rattle.wire.specs.Spelling.{asked}
+use Rattle.wire.proofs.writing_lists.each_call.Given as goal
+
+abbrev pub invariant-loop-next : goal.invariant-loop-next
+invariant-loop-next l = l.out.items ≡ l.fn.out.items ++ flat_map asked (take l.next-index l.list)

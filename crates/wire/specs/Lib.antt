@@ -1,0 +1,6 @@
+pub mod Readers
+pub mod Fields
+pub mod Spelling
+pub mod Requests
+pub mod Answers
+pub mod Messages
