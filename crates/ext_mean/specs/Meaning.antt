@@ -3,7 +3,7 @@ use Rattle.std.specs.Prelude.{ℕ, ◌+◌, ◌&&◌, List, [], ◌++◌, Option
 use Rattle.sp_base.specs.declared.outcomes.Trap.TheVariants.{Size, Denied}
 use Rattle.sp_base.specs.Places.{Place}
 use Rattle.sp_base.specs.RightsList.{can_read}
-use Rattle.ext_mean.specs.declared.tree.Program.{Program}
+use Rattle.ext_mean.specs.declared.lookup.Lookup.{Lookup}
 use Rattle.ext_mean.specs.declared.run.Run.{Run}
 use Rattle.ext_mean.specs.declared.run.Run.TheVariants.{Done}
 use Rattle.ext_mean.specs.Views.{View}
@@ -32,7 +32,7 @@ arms world (Some bytes) = resp world bytes
 arms world None = give tt
 
 -- the extension's body: the `get` statement with its arms, and the `return`
-abbrev pub body : World → Program → Work ℕ
+abbrev pub body : World → Lookup → Work ℕ
 body world program = do
   _ ← charge world 1
   found ← get world program.table world.args
@@ -50,6 +50,6 @@ ended (Next code state) = Done (record { code = code; bytes = state.reply }) sta
 ended (Ends run) = run
 
 -- the meaning of a program with these arguments and this budget, on a view
-abbrev pub mean : Program → List ℕ → ℕ → View → Run
+abbrev pub mean : Lookup → List ℕ → ℕ → View → Run
 mean program args budget view =
     ended (body (record { args = args; budget = budget; view = view }) program start)

@@ -1,16 +1,21 @@
 //! The extension language: its tree, and what an extension means on the records that it reads.
-//!
-//! The tree has the one form of extension that scripts may install today: it looks its arguments up
-//! in one table, appends what it finds to its reply, and returns a number.
 #![tactic(auto)]
 
+mod expr;
 mod laws;
+mod lookup;
+mod name;
 mod run;
+mod statement;
 mod tree;
 
+pub use expr::{BinOp, Expr};
 pub use laws::{greater_budgets_mean_the_same, known_records_decide};
+pub use lookup::Lookup;
+pub use name::Name;
 pub use run::Run;
-pub use tree::Program;
+pub use statement::{Block, Kind, Statement};
+pub use tree::{Function, Param, Program};
 
 #[cfg(test)]
 mod tests;
