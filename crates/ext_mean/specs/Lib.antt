@@ -1,5 +1,8 @@
 pub mod Views
 pub mod Work
+pub mod MeaningValues
+pub mod MeaningExpressions
+pub mod MeaningStatements
 pub mod Meaning
 pub mod Outcomes
 pub mod Text

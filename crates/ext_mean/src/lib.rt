@@ -6,6 +6,7 @@ mod laws;
 mod lookup;
 mod name;
 mod run;
+mod state;
 mod statement;
 mod tree;
 
@@ -14,6 +15,7 @@ pub use laws::{greater_budgets_mean_the_same, known_records_decide};
 pub use lookup::Lookup;
 pub use name::Name;
 pub use run::Run;
+pub use state::{Buffer, Local, State, Value};
 pub use statement::{Block, Kind, Statement};
 pub use tree::{Function, Param, Program};
 
