@@ -13,13 +13,13 @@ use Rattle.ext_mean.specs.Work.{World, Step, Next, Ends}
 use Rattle.ext_mean.proofs.Agreement.{Mark, Going, Stopped, mark, Owes, grown, Grows, Agree, Freed, Same}
 use Rattle.ext_mean.proofs.AgreeingPrograms.{main-agrees}
 
-abbrev world_of : List ℕ → ℕ → View → World
+abbrev pub world_of : List ℕ → ℕ → View → World
 world_of args budget view = record { args = args; budget = budget; view = view }
 
-abbrev run_of : Program → World → Step Value
+abbrev pub run_of : Program → World → Step Value
 run_of program world = main_of world program.functions (length program.functions) start
 
-mean-ended : (program : Program) (args : List ℕ) (budget : ℕ) (view : View) → mean program args budget view ≡ ended (run_of program (world_of args budget view))
+pub mean-ended : (program : Program) (args : List ℕ) (budget : ℕ) (view : View) → mean program args budget view ≡ ended (run_of program (world_of args budget view))
 unfolding mean
 mean-ended program args budget view = refl
 

@@ -6,3 +6,4 @@ pub mod Pieces
 pub mod AgreeingStatements
 pub mod AgreeingPrograms
 pub mod LawsProved
+pub mod WantsProved

@@ -1,4 +1,4 @@
-ghost use Rattle.ext_mean.specs.Laws.{GreaterBudgetsMeanTheSame, KnownRecordsDecide};
+ghost use Rattle.ext_mean.specs.Laws.{GreaterBudgetsMeanTheSame, KnownRecordsDecide, RunsStayWithinBudgets, WantsAreDue, WantsCost};
 
 /// Where the meaning with some units is not spent, it is the same with every greater number.
 pub fn greater_budgets_mean_the_same()
@@ -8,4 +8,19 @@ pub fn greater_budgets_mean_the_same()
 /// Where the meaning on a view wants nothing, it is the same on every view that knows as much.
 pub fn known_records_decide()
     ensures { KnownRecordsDecide }
+{}
+
+/// No run uses more than its budget.
+pub fn runs_stay_within_budgets()
+    ensures { RunsStayWithinBudgets }
+{}
+
+/// A run wants only what its view does not know and its rights let be read, behind 16 units.
+pub fn wants_are_due()
+    ensures { WantsAreDue }
+{}
+
+/// Where the meaning wants a record, it has used 16 units for it and for each known one it asked.
+pub fn wants_cost()
+    ensures { WantsCost }
 {}

@@ -11,7 +11,10 @@ mod statement;
 mod tree;
 
 pub use expr::{BinOp, Expr};
-pub use laws::{greater_budgets_mean_the_same, known_records_decide};
+pub use laws::{
+    greater_budgets_mean_the_same, known_records_decide, runs_stay_within_budgets, wants_are_due,
+    wants_cost,
+};
 pub use lookup::Lookup;
 pub use name::Name;
 pub use run::Run;
