@@ -6,6 +6,7 @@ mod laws;
 mod lookup;
 mod name;
 mod run;
+mod share;
 mod state;
 mod statement;
 mod tree;
