@@ -5,5 +5,6 @@ pub mod MeaningExpressions
 pub mod MeaningStatements
 pub mod Meaning
 pub mod Outcomes
+pub mod Lookup
 pub mod Text
 pub mod Laws

@@ -16,7 +16,7 @@ pub use laws::{
     greater_budgets_mean_the_same, known_records_decide, runs_stay_within_budgets, wants_are_due,
     wants_cost,
 };
-pub use lookup::Lookup;
+pub use lookup::{lookup_means, lookup_program};
 pub use name::Name;
 pub use run::Run;
 pub use state::{Buffer, Local, State, Value};
