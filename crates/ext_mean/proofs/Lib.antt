@@ -8,3 +8,4 @@ pub mod AgreeingPrograms
 pub mod LawsProved
 pub mod WantsProved
 pub mod LookupProved
+pub mod ExamplesProved

@@ -8,3 +8,4 @@ pub mod Outcomes
 pub mod Lookup
 pub mod Text
 pub mod Laws
+pub mod Examples

@@ -1,6 +1,7 @@
 //! The extension language: its tree, and what an extension means on the records that it reads.
 #![tactic(auto)]
 
+mod examples;
 mod expr;
 mod laws;
 mod lookup;
@@ -11,6 +12,7 @@ mod state;
 mod statement;
 mod tree;
 
+pub use examples::worked_examples;
 pub use expr::{BinOp, Expr};
 pub use laws::{
     greater_budgets_mean_the_same, known_records_decide, runs_stay_within_budgets, wants_are_due,
