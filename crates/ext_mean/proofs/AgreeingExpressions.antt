@@ -1,9 +1,7 @@
 -- Expressions agree in a world and in one that grew from it.
-use Rattle.std.proofs.Common.{◌≡◌, ◌⊎◌, inl, inr, ℕ, ◌+◌, ◌≤◌, ◌/◌, Bool, true, false, List, [], ◌∷◌, map, Option, Some, None, refl, sym, subst, arith, if◌then◌else◌, nat_le}
-use Rattle.std.specs.Prelude.{IsTrue, length, nat_lt, ◌&&◌}
+use Rattle.std.proofs.Common.{◌≡◌, ℕ, ◌/◌, Bool, true, false, List, Option, sym, subst, if◌then◌else◌}
 use Rattle.sp_base.specs.declared.outcomes.Trap.TheVariants.{Range, Divide, Size, Denied}
 use Rattle.sp_base.specs.Places.{Place}
-use Rattle.sp_base.specs.RightsList.{can_write}
 use Rattle.ext_mean.specs.declared.expr.BinOp.{BinOp}
 use Rattle.ext_mean.specs.declared.expr.BinOp.TheVariants as op
 use Rattle.ext_mean.specs.declared.expr.Expr.{Expr}
@@ -11,13 +9,12 @@ use Rattle.ext_mean.specs.declared.expr.Expr.TheViews.{roll-Expr}
 use Rattle.ext_mean.specs.declared.expr.Expr.TheOpen.{Expr-F}
 use Rattle.ext_mean.specs.declared.expr.Expr.TheFolds.{ind-Expr, map-Expr}
 use Rattle.ext_mean.specs.declared.run.Run.{Run}
-use Rattle.ext_mean.specs.declared.state.State.{State}
 use Rattle.ext_mean.specs.declared.state.Value.{Value}
 use Rattle.ext_mean.specs.declared.state.Value.TheVariants as value
-use Rattle.ext_mean.specs.MeaningValues.{is_key, number_of, bytes_of, buffer_of, value_of}
+use Rattle.ext_mean.specs.MeaningValues.{number_of, bytes_of, buffer_of}
 use Rattle.ext_mean.specs.MeaningExpressions as meaning
 use Rattle.ext_mean.specs.MeaningExpressions.{evaluate, expression_form}
-use Rattle.ext_mean.specs.Work.{World, Step, Next, Ends, Work, ◌>>=◌, give, charge, require}
+use Rattle.ext_mean.specs.Work.{World, Work, ◌>>=◌, give, charge, require}
 use Rattle.ext_mean.proofs.Agreement.{Mark, uses-none, grown, Grows}
 use Rattle.ext_mean.proofs.AgreeingWork as works
 use Rattle.ext_mean.proofs.Equations.{evaluate-roll}

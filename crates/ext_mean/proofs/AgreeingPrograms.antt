@@ -1,5 +1,5 @@
 -- Programs agree in a world and in one that grew from it.
-use Rattle.std.proofs.Common.{◌≡◌, ◌⊎◌, inl, inr, ℕ, zero, suc, ◌+◌, ◌≤◌, Bool, true, false, List, [], ◌∷◌, length, Option, Some, None, refl, if◌then◌else◌}
+use Rattle.std.proofs.Common.{ℕ, zero, suc, Bool, true, false, List, [], Option, Some, None, if◌then◌else◌}
 use Rattle.std.specs.Prelude.{slice_get, unwrap_or}
 use Rattle.sp_base.specs.Places.{Place}
 use Rattle.ext_mean.specs.declared.run.Run.{Run}
@@ -7,11 +7,11 @@ use Rattle.ext_mean.specs.declared.state.State.{State}
 use Rattle.ext_mean.specs.declared.state.Value.{Value}
 use Rattle.ext_mean.specs.declared.tree.Function.{Function}
 use Rattle.ext_mean.specs.MeaningValues.{nothing, bound}
-use Rattle.ext_mean.specs.MeaningStatements.{Calls, Course, run_block}
+use Rattle.ext_mean.specs.MeaningStatements.{Calls, run_block}
 use Rattle.ext_mean.specs.Meaning as meaning
 use Rattle.ext_mean.specs.Meaning.{call_below, main_of, is_named, run_function}
-use Rattle.ext_mean.specs.Work.{World, Step, Next, Ends, Work, after, ◌>>=◌, give}
-use Rattle.ext_mean.proofs.Agreement.{Mark, mark, uses-none, grown, Grows, Agree, behind-step}
+use Rattle.ext_mean.specs.Work.{World, Next, Work, give}
+use Rattle.ext_mean.proofs.Agreement.{Mark, uses-none, grown, Grows, behind-step}
 use Rattle.ext_mean.proofs.AgreeingWork as works
 use Rattle.ext_mean.proofs.AgreeingStatements as statements
 

@@ -19,15 +19,15 @@ use Rattle.ext_mean.specs.declared.statement.Block.{Block}
 use Rattle.ext_mean.specs.declared.statement.Statement.TheViews.{roll-Statement, roll-Block}
 use Rattle.ext_mean.specs.declared.statement.Statement.TheOpen.{Statement-F, Block-F}
 use Rattle.ext_mean.specs.declared.statement.Statement.TheFolds.{ind-Statement, ind-Block, map-Statement, map-Block}
-use Rattle.ext_mean.specs.MeaningValues.{is_key, buffer_of, with_bytes, overwritten, bound, nothing, number_of, bytes_of, truth_of, word_bytes, pieces, place_changed, pending}
-use Rattle.ext_mean.specs.MeaningExpressions.{evaluate, variable}
+use Rattle.ext_mean.specs.MeaningValues.{is_key, buffer_of, with_bytes, overwritten, number_of, bytes_of, truth_of, word_bytes, pieces, place_changed, pending}
+use Rattle.ext_mean.specs.MeaningExpressions.{evaluate}
 use Rattle.ext_mean.specs.MeaningStatements as meaning
 use Rattle.ext_mean.specs.MeaningStatements.{Course, Calls, execute, run_block, statement_step, statement_form, block_step, behind, one_by_one}
-use Rattle.ext_mean.specs.Work.{World, Step, Next, Ends, Work, after, ◌>>=◌, give, charge, require, in_order}
+use Rattle.ext_mean.specs.Work.{World, Step, Next, Ends, Work, after, ◌>>=◌, give, charge, require}
 use Rattle.ext_mean.proofs.Agreement.{Mark, mark, Uses, Owes, owes-later, Owing, uses-none, grown, Grows, Agree, behind-step}
 use Rattle.ext_mean.proofs.AgreeingWork as works
 use Rattle.ext_mean.proofs.AgreeingExpressions as expressions
-use Rattle.ext_mean.proofs.Pieces.{is_key-take, IsWidth, width-tested}
+use Rattle.ext_mean.proofs.Pieces.{is_key-take, width-tested}
 use Rattle.ext_mean.proofs.Equations.{execute-roll, run_block-roll}
 
 -- works that owe what they are to owe, one after another

@@ -13,7 +13,7 @@ use Rattle.ext_mean.specs.declared.state.State.{State}
 use Rattle.ext_mean.specs.MeaningValues.{is_key, left_by, pending}
 use Rattle.ext_mean.specs.MeaningStatements.{found, read}
 use Rattle.ext_mean.specs.Work.{World, Step, Next, Ends, Work, after, ◌>>=◌, give, charge, require, known_or_wanted, in_order}
-use Rattle.ext_mean.proofs.Agreement.{Mark, Going, Stopped, mark, Uses, Owes, uses-none, grown, Grows, Agree, Related, later, behind-step, both}
+use Rattle.ext_mean.proofs.Agreement.{Mark, Going, mark, Owes, uses-none, grown, Grows, Agree, Related, later, both}
 
 module _ (free : Run → Mark → Type 0) (small : World) (budget : ℕ) (known : Place → Option (Option (List ℕ))) (grows : Grows free small budget known) where
   abbrev pub large : World

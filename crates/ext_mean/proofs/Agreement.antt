@@ -1,8 +1,7 @@
 -- How the runs of one program in two worlds agree: they are the same, unless the first was stopped
 -- in a way that the second world frees.
-use Rattle.std.proofs.Common.{◌≡◌, ◌⊎◌, inl, inr, ℕ, ◌+◌, ◌≤◌, Bool, true, false, List, Option, Some, None, refl, sym, subst, arith, if◌then◌else◌, nat_le}
+use Rattle.std.proofs.Common.{◌≡◌, ◌⊎◌, inl, inr, ℕ, ◌+◌, ◌≤◌, List, Option, None, refl, subst, arith}
 use Rattle.std.specs.Prelude.{IsTrue}
-use Rattle.sp_base.specs.declared.outcomes.Trap.{Trap}
 use Rattle.sp_base.specs.declared.numbers.TableId.{TableId}
 use Rattle.sp_base.specs.Places.{Place}
 use Rattle.sp_base.specs.RightsList.{can_read}

@@ -1,5 +1,5 @@
 -- The equations of the two recursions on the tree: one form at a time.
-use Rattle.std.proofs.Common.{◌≡◌, ℕ, Bool, List, map, Option, sym, ap, ◌∙◌}
+use Rattle.std.proofs.Common.{◌≡◌, ℕ, Bool, List, map, sym, ap, ◌∙◌}
 use Rattle.ext_mean.specs.declared.expr.BinOp.{BinOp}
 use Rattle.ext_mean.specs.declared.expr.Expr.TheVariants as e
 use Rattle.ext_mean.specs.declared.statement.Statement.TheVariants as s

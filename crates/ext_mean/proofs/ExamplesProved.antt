@@ -1,5 +1,5 @@
 -- The small programs mean what is said of them, computed step by step.
-use Rattle.std.proofs.Common.{◌≡◌, ◌∙◌}
+use Rattle.std.proofs.Common.{◌∙◌}
 use Rattle.ext_mean.specs.Examples.{Examples}
 use Rattle.ext_mean.proofs.Equations.{equations}
 use Rattle.ext_mean.proofs.LawsProved.{mean-ended}

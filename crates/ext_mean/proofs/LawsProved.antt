@@ -1,16 +1,16 @@
 -- The laws of the meaning.
-use Rattle.std.proofs.Common.{◌≡◌, ◌≢◌, ◌⊎◌, inl, inr, ℕ, ◌+◌, ◌≤◌, List, [], ◌∷◌, length, Option, Some, None, refl, sym, ap, ◌∙◌, subst, arith}
+use Rattle.std.proofs.Common.{◌≡◌, ◌⊎◌, inl, inr, ℕ, ◌≤◌, List, length, Option, Some, None, refl, sym, ap, ◌∙◌, subst, arith}
 use Rattle.sp_base.specs.Places.{Place}
 use Rattle.ext_mean.specs.declared.run.Run.{Run}
-use Rattle.ext_mean.specs.declared.run.Run.TheVariants.{Done, Trapped, Spent, Wants}
+use Rattle.ext_mean.specs.declared.run.Run.TheVariants.{Spent, Wants}
 use Rattle.ext_mean.specs.declared.tree.Program.{Program}
 use Rattle.ext_mean.specs.declared.state.Value.{Value}
 use Rattle.ext_mean.specs.Views.{View, Extends}
 use Rattle.ext_mean.specs.Outcomes.{outcome_of}
 use Rattle.ext_mean.specs.Laws.{GreaterBudgetsMeanTheSame, KnownRecordsDecide}
 use Rattle.ext_mean.specs.Meaning.{mean, main_of, start, ended}
-use Rattle.ext_mean.specs.Work.{World, Step, Next, Ends}
-use Rattle.ext_mean.proofs.Agreement.{Mark, Going, Stopped, mark, Owes, grown, Grows, Agree, Freed, Same}
+use Rattle.ext_mean.specs.Work.{World, Step}
+use Rattle.ext_mean.proofs.Agreement.{Mark, Going, mark, grown, Grows, Same}
 use Rattle.ext_mean.proofs.AgreeingPrograms.{main-agrees}
 
 abbrev pub world_of : List ℕ → ℕ → View → World

@@ -1,12 +1,11 @@
 -- The meaning of the form that looks its arguments up is its straight work: one test after another.
-use Rattle.std.proofs.Common.{◌≡◌, ℕ, Bool, true, false, List, [], ◌∷◌, length, Option, Some, None, refl, ◌∙◌, ◌+◌, nat_le}
+use Rattle.std.proofs.Common.{◌≡◌, ℕ, Bool, true, false, List, length, Option, Some, None, refl, ◌∙◌, ◌+◌, nat_le}
 use Rattle.sp_base.specs.Places.{Place}
 use Rattle.sp_base.specs.RightsList.{can_read}
-use Rattle.ext_mean.specs.declared.run.Run.{Run}
 use Rattle.ext_mean.specs.Views.{View}
 use Rattle.ext_mean.specs.Work.{World}
 use Rattle.ext_mean.specs.MeaningValues.{is_key}
-use Rattle.ext_mean.specs.Meaning.{mean, main_of, start, ended}
+use Rattle.ext_mean.specs.Meaning.{start, ended}
 use Rattle.ext_mean.specs.Lookup.{lookup_program, lookup_ended, lookup_work, LookupMeans}
 use Rattle.ext_mean.proofs.LawsProved.{world_of, run_of, mean-ended}
 use Rattle.ext_mean.proofs.Equations.{equations}

@@ -1,5 +1,5 @@
 -- What runs use, and what their wants cost.
-use Rattle.std.proofs.Common.{◌≡◌, ◌≢◌, ◌⊎◌, inl, inr, ℕ, ◌+◌, ◌*◌, ◌≤◌, Bool, List, [], ◌∷◌, length, Option, Some, None, refl, sym, ap, ◌∙◌, subst, arith, nat_le}
+use Rattle.std.proofs.Common.{◌≡◌, ◌≢◌, ◌⊎◌, inl, inr, ℕ, ◌+◌, ◌≤◌, List, length, Option, Some, None, refl, sym, ap, ◌∙◌, subst, arith, nat_le}
 use Rattle.std.specs.Prelude.{IsTrue}
 use Rattle.std.proofs.lemmas.Bool.{leb-true}
 use Rattle.sp_base.specs.declared.numbers.TableId.{TableId}
@@ -8,14 +8,13 @@ use Rattle.sp_base.specs.Places.{Place}
 use Rattle.ext_mean.specs.declared.run.Run.{Run}
 use Rattle.ext_mean.specs.declared.run.Run.TheVariants.{Done, Trapped, Spent, Wants}
 use Rattle.ext_mean.specs.declared.tree.Program.{Program}
-use Rattle.ext_mean.specs.declared.state.State.{State}
 use Rattle.ext_mean.specs.declared.state.Value.{Value}
 use Rattle.ext_mean.specs.Views.{View, Extends}
-use Rattle.ext_mean.specs.Laws.{RunsStayWithinBudgets, IsWithin, WantsAreDue, IsDue, WantsCost, Answered, NoneYet, OneMore, place_in}
-use Rattle.ext_mean.specs.Meaning.{mean, main_of, start, ended}
+use Rattle.ext_mean.specs.Laws.{RunsStayWithinBudgets, IsWithin, WantsAreDue, WantsCost, NoneYet, OneMore, place_in}
+use Rattle.ext_mean.specs.Meaning.{mean, start, ended}
 use Rattle.ext_mean.specs.MeaningValues.{is_key}
 use Rattle.ext_mean.specs.Work.{World, Step, Next, Ends}
-use Rattle.ext_mean.proofs.Agreement.{Mark, Going, Stopped, mark, Uses, Asks, Owes, owes-later, uses-none, grown, Grows, Agree, Freed, Same}
+use Rattle.ext_mean.proofs.Agreement.{Mark, Going, mark, Uses, Asks, Owes, owes-later, uses-none, Grows}
 use Rattle.ext_mean.proofs.AgreeingPrograms.{main-agrees}
 use Rattle.ext_mean.proofs.LawsProved.{world_of, run_of, mean-ended}
 use Rattle.ext_mean.proofs.Pieces.{and-both}

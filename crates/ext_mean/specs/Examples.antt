@@ -6,7 +6,6 @@ use Rattle.sp_base.specs.declared.rights.Level.{Level}
 use Rattle.sp_base.specs.declared.rights.Level.TheVariants as level
 use Rattle.sp_base.specs.declared.writes.Change.TheVariants as change
 use Rattle.sp_base.specs.declared.writes.Write.{Write}
-use Rattle.sp_base.specs.Places.{Place}
 use Rattle.ext_mean.specs.declared.expr.BinOp.TheVariants as op
 use Rattle.ext_mean.specs.declared.expr.Expr.{Expr}
 use Rattle.ext_mean.specs.declared.expr.Expr.TheVariants as expr

@@ -3,7 +3,6 @@ use Rattle.std.specs.Prelude.{◌≡◌, ℕ, ◌+◌, ◌&&◌, List, [], ◌�
 use Rattle.sp_base.specs.declared.outcomes.Trap.TheVariants.{Size, Denied}
 use Rattle.sp_base.specs.Places.{Place}
 use Rattle.sp_base.specs.RightsList.{can_read}
-use Rattle.ext_mean.specs.declared.expr.Expr.{Expr}
 use Rattle.ext_mean.specs.declared.expr.Expr.TheVariants as expr
 use Rattle.ext_mean.specs.declared.statement.Kind.TheVariants as kind
 use Rattle.ext_mean.specs.declared.statement.Statement.{Statement}

@@ -1,5 +1,5 @@
 -- What an extension means: the work of its last function on its arguments, its budget and its view.
-use Rattle.std.specs.Prelude.{ℕ, zero, suc, List, [], ◌∷◌, length, Option, Some, None, unwrap_or, slice_get, Bool, false, if◌then◌else◌}
+use Rattle.std.specs.Prelude.{ℕ, zero, suc, List, [], length, Option, Some, None, unwrap_or, slice_get, Bool, false, if◌then◌else◌}
 use Rattle.std.specs.Str.{bytes_eq}
 use Rattle.ext_mean.specs.declared.tree.Program.{Program}
 use Rattle.ext_mean.specs.declared.tree.Function.{Function}
@@ -10,7 +10,7 @@ use Rattle.ext_mean.specs.declared.state.Value.{Value}
 use Rattle.ext_mean.specs.Views.{View}
 use Rattle.ext_mean.specs.Work.{World, Step, Next, Ends, Work, ◌>>=◌, give, look, become}
 use Rattle.ext_mean.specs.MeaningValues.{nothing, number_of, bound}
-use Rattle.ext_mean.specs.MeaningStatements.{Calls, Course, run_block}
+use Rattle.ext_mean.specs.MeaningStatements.{Calls, run_block}
 
 -- a called function's block runs with its parameters as the only variables, and then the caller's
 -- variables are in scope again

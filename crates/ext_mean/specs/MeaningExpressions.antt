@@ -1,5 +1,5 @@
 -- What expressions mean: a value, from left to right, with the charges and tests of the language.
-use Rattle.std.specs.Prelude.{ℕ, ◌+◌, ◌-◌, ◌*◌, ◌/◌, ◌%◌, ◌^◌, ◌==◌, Bool, true, false, not, List, [], ◌∷◌, length, replicate, slice_index, nat_le, nat_lt, ◌&&◌, if◌then◌else◌}
+use Rattle.std.specs.Prelude.{ℕ, ◌+◌, ◌-◌, ◌*◌, ◌/◌, ◌%◌, ◌^◌, Bool, false, not, List, length, replicate, slice_index, nat_le, nat_lt, ◌&&◌, if◌then◌else◌}
 use Rattle.sp_base.specs.declared.outcomes.Trap.TheVariants.{Range, Divide, Size, Denied}
 use Rattle.sp_base.specs.RightsList.{can_write}
 use Rattle.ext_mean.specs.declared.expr.BinOp.{BinOp}

@@ -1,6 +1,6 @@
 -- What statements and blocks mean. Each hands on the value that it returned, or none where the run
 -- goes on behind it.
-use Rattle.std.specs.Prelude.{ℕ, zero, suc, ◌+◌, ◌/◌, ◌%◌, ◌==◌, Bool, true, false, List, [], ◌∷◌, ◌++◌, map, take, length, nat_le, nat_lt, ◌&&◌, ◌||◌, is_some, Option, Some, None, if◌then◌else◌}
+use Rattle.std.specs.Prelude.{ℕ, zero, suc, ◌+◌, ◌/◌, ◌%◌, ◌==◌, Bool, true, List, [], ◌∷◌, ◌++◌, map, take, length, nat_le, nat_lt, ◌&&◌, ◌||◌, is_some, Option, Some, None, if◌then◌else◌}
 use Rattle.sp_base.specs.declared.outcomes.Trap.TheVariants.{Range, Size, Denied, Width}
 use Rattle.sp_base.specs.declared.writes.Change.TheVariants as change
 use Rattle.sp_base.specs.declared.writes.Change.{Change}
