@@ -9,3 +9,4 @@ pub mod LawsProved
 pub mod WantsProved
 pub mod LookupProved
 pub mod ExamplesProved
+pub mod AskedProved

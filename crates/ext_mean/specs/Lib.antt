@@ -8,4 +8,5 @@ pub mod Outcomes
 pub mod Lookup
 pub mod Text
 pub mod Laws
+pub mod Asked
 pub mod Examples

@@ -1,4 +1,5 @@
 ghost use Rattle.ext_mean.specs.Laws.{GreaterBudgetsMeanTheSame, KnownRecordsDecide, RunsStayWithinBudgets, WantsAreDue, WantsCost};
+ghost use Rattle.ext_mean.specs.Asked.{ReadsCost, WantedReadJoins};
 
 /// Where the meaning with some units is not spent, it is the same with every greater number.
 pub fn greater_budgets_mean_the_same()
@@ -23,4 +24,14 @@ pub fn wants_are_due()
 /// Where the meaning wants a record, it has used 16 units for it and for each known one it asked.
 pub fn wants_cost()
     ensures { WantsCost }
+{}
+
+/// A read that the meaning wants on the reads asked joins them.
+pub fn a_wanted_read_joins()
+    ensures { WantedReadJoins }
+{}
+
+/// Where the meaning wants a record on the reads asked, it has used 16 units for it and for each.
+pub fn reads_cost()
+    ensures { ReadsCost }
 {}
