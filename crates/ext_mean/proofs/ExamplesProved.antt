@@ -2,6 +2,7 @@
 use Rattle.std.proofs.Common.{◌∙◌}
 use Rattle.ext_mean.specs.Examples.{Examples}
 use Rattle.ext_mean.proofs.Equations.{equations}
+use Rattle.ext_mean.proofs.ItemEquations.{item_equations}
 use Rattle.ext_mean.proofs.LawsProved.{mean-ended}
 
 pub examples : Examples
@@ -30,4 +31,5 @@ examples = record {
   calls_a_function = mean-ended _ _ _ _ ∙ simp equations;
   wraps_around = mean-ended _ _ _ _ ∙ simp equations;
   writes_little_endian = mean-ended _ _ _ _ ∙ simp equations;
+  numbers_its_items = simp item_equations;
 }

@@ -8,5 +8,6 @@ pub mod AgreeingPrograms
 pub mod LawsProved
 pub mod WantsProved
 pub mod LookupProved
+pub mod ItemEquations
 pub mod ExamplesProved
 pub mod AskedProved

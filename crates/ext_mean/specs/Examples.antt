@@ -19,6 +19,8 @@ use Rattle.ext_mean.specs.declared.tree.Program.{Program}
 use Rattle.ext_mean.specs.Views.{View}
 use Rattle.ext_mean.specs.Lookup.{block_of}
 use Rattle.ext_mean.specs.Meaning.{mean}
+use Rattle.ext_mean.specs.ProgramItems.{Item, Head, Body, program_items}
+use Rattle.ext_mean.specs.declared.statement.Statement.TheOpen.{Statement-F}
 
 -- the function `main` with these statements, and a program of it alone
 abbrev pub main_with : List Statement → Function
@@ -185,3 +187,5 @@ pub record Examples : Type 0 where
   pub calls_a_function : mean calling [] 9 unknown ≡ ends_with 42 [] [] 3
   pub wraps_around : mean below_zero [] 9 unknown ≡ ends_with (2 ^ 64 - 1) [] [] 1
   pub writes_little_endian : mean little_endian [] 9 unknown ≡ ends_with 1 [] [] 3
+  -- a function's head is item 0, and a statement stands before those in its blocks
+  pub numbers_its_items : program_items (choice (expr.Truth true)) ≡ Head (codes "main") [] kind.Int ∷ Body (Statement-F.If (expr.Truth true) tt tt) ∷ Body (Statement-F.Return (num 1)) ∷ Body (Statement-F.Return (num 2)) ∷ []

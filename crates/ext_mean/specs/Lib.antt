@@ -7,6 +7,7 @@ pub mod Meaning
 pub mod Outcomes
 pub mod Lookup
 pub mod Text
+pub mod ProgramItems
 pub mod Laws
 pub mod Asked
 pub mod Examples
