@@ -24,7 +24,7 @@ unfolding mean
 mean-ended program args budget view = refl
 
 -- where the first run's stop is not free, the two runs end alike
-same-end : (free : Run → Mark → Type 0) (first second : Step Value) → Same free first second → ((m : Mark) → free (ended first) m → ⊥) → ended second ≡ ended first
+pub same-end : (free : Run → Mark → Type 0) (first second : Step Value) → Same free first second → ((m : Mark) → free (ended first) m → ⊥) → ended second ≡ ended first
 same-end free first second same excluded = elim same [
   | inl e ↦ ap ended e
   | inr f ↦ absurd (excluded (mark second) (subst (λ run. free run (mark second)) (ap ended f.stopped) f.allowed))

@@ -11,3 +11,4 @@ pub mod LookupProved
 pub mod ItemEquations
 pub mod ExamplesProved
 pub mod AskedProved
+pub mod KnownProved

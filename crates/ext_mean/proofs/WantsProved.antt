@@ -49,12 +49,12 @@ stay-within program args budget view =
     subst (IsWithin budget) (sym (mean-ended program args budget view)) (within-step world (run_of program world) (owed program world))
 
 -- only a stop ends in a want
-wants-ends : (step : Step Value) (table : TableId) (key : List ℕ) (used : ℕ) → ended step ≡ Wants table key used → step ≡ Ends (Wants table key used)
+pub wants-ends : (step : Step Value) (table : TableId) (key : List ℕ) (used : ℕ) → ended step ≡ Wants table key used → step ≡ Ends (Wants table key used)
 wants-ends (Next value state) table key used e = absurd (cc)
 wants-ends (Ends run) table key used e = ap Ends e
 
 -- what a want owes
-asked : (program : Program) (args : List ℕ) (budget : ℕ) (view : View) (table : TableId) (key : List ℕ) (used : ℕ) → mean program args budget view ≡ Wants table key used → run_of program (world_of args budget view) ≡ Ends (Wants table key used)
+pub asked : (program : Program) (args : List ℕ) (budget : ℕ) (view : View) (table : TableId) (key : List ℕ) (used : ℕ) → mean program args budget view ≡ Wants table key used → run_of program (world_of args budget view) ≡ Ends (Wants table key used)
 asked program args budget view table key used e =
     wants-ends (run_of program (world_of args budget view)) table key used (sym (mean-ended program args budget view) ∙ e)
 
@@ -83,7 +83,7 @@ behind-closed world Spent used m free owes = free
 behind-closed world (Wants table key before) used m free owes = owes-later world before used m free owes
 
 -- the view that knows what another knows, with the rights of the first
-abbrev knowing : View → View → View
+abbrev pub knowing : View → View → View
 knowing small large = record { rights = small.rights; known = large.known }
 
 behind-grows : (args : List ℕ) (budget : ℕ) (small large : View) → Extends small large → Grows (behind_free (world_of args budget (knowing small large))) (world_of args budget small) budget large.known
@@ -98,7 +98,7 @@ behind-grows args budget small large extends = record {
     knows-at place (Some value) e = inl (extends.known place (λ none. let f : Some value ≡ None = sym e ∙ none in cc))
     knows-at place None e = inr (e, uses-none (world_of args budget (knowing small large)))
 
-same-meaning : (program : Program) (args : List ℕ) (budget : ℕ) (small large : View) → Extends small large → mean program args budget large ≡ mean program args budget (knowing small large)
+pub same-meaning : (program : Program) (args : List ℕ) (budget : ℕ) (small large : View) → Extends small large → mean program args budget large ≡ mean program args budget (knowing small large)
 same-meaning program args budget small large extends =
     ap (λ rights. mean program args budget (record { rights = rights; known = large.known })) extends.rights
 

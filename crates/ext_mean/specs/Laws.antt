@@ -25,6 +25,19 @@ KnownRecordsDecide =
     → Extends small large → outcome_of (mean program args budget small) ≢ None
     → mean program args budget large ≡ mean program args budget small
 
+-- the place with a table's number and a key
+abbrev pub place_in : TableId → List ℕ → Place
+place_in table key = record { table = table.0; key = key }
+
+-- where a view does not know what the meaning wants on a smaller one, the meaning is the same on it
+abbrev pub WantsPersist : Type 0
+WantsPersist =
+    (program : Program) (args : List ℕ) (budget : ℕ) (small large : View)
+    (table : TableId) (key : List ℕ) (used : ℕ)
+    → Extends small large → mean program args budget small ≡ Wants table key used
+    → large.known (place_in table key) ≡ None
+    → mean program args budget large ≡ mean program args budget small
+
 -- the units that a run used are in its budget
 abbrev pub IsWithin : ℕ → Run → Type 0
 IsWithin budget (Done reply writes used) = used ≤ budget
@@ -37,10 +50,6 @@ abbrev pub RunsStayWithinBudgets : Type 0
 RunsStayWithinBudgets =
     (program : Program) (args : List ℕ) (budget : ℕ) (view : View)
     → IsWithin budget (mean program args budget view)
-
--- the place with a table's number and a key
-abbrev pub place_in : TableId → List ℕ → Place
-place_in table key = record { table = table.0; key = key }
 
 -- A want is due: its 16 units are among those used, the view does not know the place, the rights let
 -- its table be read, and its key is one.

@@ -1,5 +1,5 @@
-ghost use Rattle.ext_mean.specs.Laws.{GreaterBudgetsMeanTheSame, KnownRecordsDecide, RunsStayWithinBudgets, WantsAreDue, WantsCost};
-ghost use Rattle.ext_mean.specs.Asked.{ReadsCost, WantedReadJoins};
+ghost use Rattle.ext_mean.specs.Laws.{GreaterBudgetsMeanTheSame, KnownRecordsDecide, RunsStayWithinBudgets, WantsAreDue, WantsCost, WantsPersist};
+ghost use Rattle.ext_mean.specs.Asked.{KnownRecordsCost, ReadsCost, WantedReadJoins};
 
 /// Where the meaning with some units is not spent, it is the same with every greater number.
 pub fn greater_budgets_mean_the_same()
@@ -21,7 +21,7 @@ pub fn wants_are_due()
     ensures { WantsAreDue }
 {}
 
-/// Where the meaning wants a record, it has used 16 units for it and for each known one it asked.
+/// The next want after some that were answered comes 16 units behind each of them.
 pub fn wants_cost()
     ensures { WantsCost }
 {}
@@ -34,4 +34,14 @@ pub fn a_wanted_read_joins()
 /// Where the meaning wants a record on the reads asked, it has used 16 units for it and for each.
 pub fn reads_cost()
     ensures { ReadsCost }
+{}
+
+/// Where a view does not know what the meaning wants on a smaller one, the meaning is the same on it.
+pub fn wants_persist()
+    ensures { WantsPersist }
+{}
+
+/// Where the meaning wants a record, it has used 16 units for it and for each known one it asked.
+pub fn known_records_cost()
+    ensures { KnownRecordsCost }
 {}
