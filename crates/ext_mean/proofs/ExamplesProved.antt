@@ -31,5 +31,13 @@ examples = record {
   calls_a_function = mean-ended _ _ _ _ ∙ simp equations;
   wraps_around = mean-ended _ _ _ _ ∙ simp equations;
   writes_little_endian = mean-ended _ _ _ _ ∙ simp equations;
+  stops_at_an_absent_pair = mean-ended _ _ _ _ ∙ simp equations;
+  last_change_at_the_first_place = mean-ended _ _ _ _ ∙ simp equations;
+  copies_bytes = mean-ended _ _ _ _ ∙ simp equations;
+  no_byte_is_range = mean-ended _ _ _ _ ∙ simp equations;
+  sums_do_not_wrap = mean-ended _ _ _ _ ∙ simp equations;
+  reads_little_endian = mean-ended _ _ _ _ ∙ simp equations;
+  blocks_have_their_variables = mean-ended _ _ _ _ ∙ simp equations;
+  returns_out_of_a_loop = mean-ended _ _ _ _ ∙ simp equations;
   numbers_its_items = simp item_equations;
 }

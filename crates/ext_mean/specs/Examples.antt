@@ -1,5 +1,5 @@
 -- Small programs, and what they mean.
-use Rattle.std.specs.Prelude.{◌≡◌, ◌-◌, ◌^◌, ℕ, true, false, List, [], ◌∷◌, Option, Some, None, codes}
+use Rattle.std.specs.Prelude.{◌≡◌, ◌-◌, ◌^◌, ℕ, true, false, List, [], ◌∷◌, ◌++◌, Option, Some, None, codes}
 use Rattle.sp_base.specs.declared.numbers.TableId.{TableId}
 use Rattle.sp_base.specs.declared.outcomes.Trap.TheVariants as trap
 use Rattle.sp_base.specs.declared.rights.Level.{Level}
@@ -44,6 +44,10 @@ everywhere answer = record { rights = granted; known = λ place. Some answer }
 -- a run that came to its end
 abbrev pub ends_with : ℕ → List ℕ → List Write → ℕ → Run
 ends_with code bytes writes used = Done (record { code = code; bytes = bytes }) writes used
+
+-- the change that puts one byte in table 2
+abbrev pub written : ℕ → List ℕ → Write
+written byte key = record { table = record { 0 = 2 }; key = key; change = change.Put (byte ∷ []) }
 
 -- shorter names for the pieces of programs
 abbrev pub num : ℕ → Expr
@@ -161,6 +165,62 @@ little_endian =
     ∷ statement.Set8 (codes "b") (num 0) (num 258)
     ∷ statement.Return (expr.Byte (expr.View (codes "b")) (num 1)) ∷ [])
 
+-- `multiget(1, "abcd", 2) { some s => { resp(s); } none => { return 1; } } return 0;`
+abbrev pub stopping_pairs : Program
+stopping_pairs =
+    only_main (statement.Multi (num 1) (text (codes "abcd")) (num 2) (codes "s")
+    (block_of (statement.Resp (expr.Var (codes "s")) ∷ [])) (block_of (returns 1 ∷ [])) ∷ returns 0 ∷ [])
+
+-- `let NAME: buf = alloc(2, "KEY", 1); set(NAME, 0, BYTE); put(NAME);`
+abbrev pub putting : List ℕ → List ℕ → ℕ → List Statement
+putting name key byte =
+    statement.Let name kind.Buf (expr.Alloc (num 2) (text key) (num 1))
+    ∷ statement.Set name (num 0) (num byte) ∷ statement.Put name ∷ []
+
+-- two places, the first of them put twice
+abbrev pub three_puts : Program
+three_puts =
+    only_main (putting (codes "a") (codes "k") 1 ++ putting (codes "b") (codes "j") 2
+    ++ putting (codes "c") (codes "k") 3 ++ returns 0 ∷ [])
+
+-- `let b: temp = temp(3); copy(b, 1, "xy"); resp(view(b)); return len(view(b));`
+abbrev pub copying : Program
+copying =
+    only_main (statement.Let (codes "b") kind.Temp (expr.Temp (num 3))
+    ∷ statement.Copy (codes "b") (num 1) (text (codes "xy"))
+    ∷ statement.Resp (expr.View (codes "b"))
+    ∷ statement.Return (expr.Len (expr.View (codes "b"))) ∷ [])
+
+-- `let b: temp = temp(1); set(b, 0, 256); return 0;`
+abbrev pub no_byte : Program
+no_byte =
+    only_main (statement.Let (codes "b") kind.Temp (expr.Temp (num 1))
+    ∷ statement.Set (codes "b") (num 0) (num 256) ∷ returns 0 ∷ [])
+
+-- `resp(sub(args(), 1, 18446744073709551615)); return 0;`
+abbrev pub long_part : Program
+long_part =
+    only_main (statement.Resp (expr.Sub expr.Args (num 1) (num (2 ^ 64 - 1))) ∷ returns 0 ∷ [])
+
+-- `return u64(args(), 0);`
+abbrev pub first_word : Program
+first_word = only_main (statement.Return (expr.Word expr.Args (num 0)) ∷ [])
+
+-- `let i: int = 1; if true { let j: int = 2; i = i + j; } let j: int = 4; return i + j;`
+abbrev pub inner_scope : Program
+inner_scope =
+    only_main (statement.Let (codes "i") kind.Int (num 1)
+    ∷ statement.If (expr.Truth true)
+    (block_of (statement.Let (codes "j") kind.Int (num 2)
+    ∷ statement.Assign (codes "i") (expr.Bin op.Add (expr.Var (codes "i")) (expr.Var (codes "j"))) ∷ []))
+    (block_of [])
+    ∷ statement.Let (codes "j") kind.Int (num 4)
+    ∷ statement.Return (expr.Bin op.Add (expr.Var (codes "i")) (expr.Var (codes "j"))) ∷ [])
+
+-- `while true { return 5; } return 0;`
+abbrev pub left_loop : Program
+left_loop = only_main (statement.While (expr.Truth true) (block_of (returns 5 ∷ [])) ∷ returns 0 ∷ [])
+
 -- what each of them means
 pub record Examples : Type 0 where
   pub divides_by_zero : mean division [] 9 unknown ≡ Trapped trap.Divide 1
@@ -187,5 +247,13 @@ pub record Examples : Type 0 where
   pub calls_a_function : mean calling [] 9 unknown ≡ ends_with 42 [] [] 3
   pub wraps_around : mean below_zero [] 9 unknown ≡ ends_with (2 ^ 64 - 1) [] [] 1
   pub writes_little_endian : mean little_endian [] 9 unknown ≡ ends_with 1 [] [] 3
+  pub stops_at_an_absent_pair : mean stopping_pairs [] 99 (everywhere None) ≡ ends_with 1 [] [] 18
+  pub last_change_at_the_first_place : mean three_puts [] 99 unknown ≡ ends_with 0 [] (written 3 (codes "k") ∷ written 2 (codes "j") ∷ []) 10
+  pub copies_bytes : mean copying [] 9 unknown ≡ ends_with 3 (0 ∷ codes "xy") [] 4
+  pub no_byte_is_range : mean no_byte [] 9 unknown ≡ Trapped trap.Range 2
+  pub sums_do_not_wrap : mean long_part (7 ∷ 8 ∷ []) 9 unknown ≡ Trapped trap.Range 1
+  pub reads_little_endian : mean first_word (1 ∷ 2 ∷ 0 ∷ 0 ∷ 0 ∷ 0 ∷ 0 ∷ 0 ∷ []) 9 unknown ≡ ends_with 513 [] [] 1
+  pub blocks_have_their_variables : mean inner_scope [] 9 unknown ≡ ends_with 7 [] [] 6
+  pub returns_out_of_a_loop : mean left_loop [] 9 unknown ≡ ends_with 5 [] [] 3
   -- a function's head is item 0, and a statement stands before those in its blocks
   pub numbers_its_items : program_items (choice (expr.Truth true)) ≡ Head (codes "main") [] kind.Int ∷ Body (Statement-F.If (expr.Truth true) tt tt) ∷ Body (Statement-F.Return (num 1)) ∷ Body (Statement-F.Return (num 2)) ∷ []
