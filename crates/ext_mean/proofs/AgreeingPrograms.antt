@@ -43,7 +43,7 @@ module _ (free : Run → Mark → Type 0) (small : World) (budget : ℕ) (known 
   either true m m' n n' first second = first
   either false m m' n n' first second = second
 
-  calls-agree : (functions : List Function) (count : ℕ) → CallsAgree (call_below small functions count) (call_below large functions count)
+  pub calls-agree : (functions : List Function) (count : ℕ) → CallsAgree (call_below small functions count) (call_below large functions count)
   calls-agree functions zero name values = given nothing
   calls-agree functions (suc count) name values =
       either (is_named name (slice_get functions count)) _ _ _ _

@@ -12,3 +12,4 @@ pub mod ItemEquations
 pub mod ExamplesProved
 pub mod AskedProved
 pub mod KnownProved
+pub mod LoopsProved

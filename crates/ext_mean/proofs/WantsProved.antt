@@ -20,10 +20,10 @@ use Rattle.ext_mean.proofs.LawsProved.{world_of, run_of, mean-ended}
 use Rattle.ext_mean.proofs.Pieces.{and-both}
 
 -- nothing is free
-abbrev none_free : Run → Mark → Type 0
+abbrev pub none_free : Run → Mark → Type 0
 none_free run m = ⊥
 
-alone : (world : World) → Grows none_free world world.budget world.view.known
+pub alone : (world : World) → Grows none_free world world.budget world.view.known
 alone world = record {
   fits = omega arith;
   spends = inl refl;

@@ -8,6 +8,7 @@ pub mod Outcomes
 pub mod Lookup
 pub mod Text
 pub mod ProgramItems
+pub mod Loops
 pub mod Laws
 pub mod Asked
 pub mod Examples

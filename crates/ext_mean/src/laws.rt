@@ -1,3 +1,4 @@
+ghost use Rattle.ext_mean.specs.Loops.{LoopsUnroll};
 ghost use Rattle.ext_mean.specs.Laws.{GreaterBudgetsMeanTheSame, KnownRecordsDecide, RunsStayWithinBudgets, WantsAreDue, WantsCost, WantsPersist};
 ghost use Rattle.ext_mean.specs.Asked.{KnownRecordsCost, ReadsCost, WantedReadJoins};
 
@@ -44,4 +45,9 @@ pub fn wants_persist()
 /// Where the meaning wants a record, it has used 16 units for it and for each known one it asked.
 pub fn known_records_cost()
     ensures { KnownRecordsCost }
+{}
+
+/// A loop is one turn with the loop behind it: no bound but the budget ends it.
+pub fn loops_unroll()
+    ensures { LoopsUnroll }
 {}

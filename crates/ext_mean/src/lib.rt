@@ -16,7 +16,7 @@ pub use examples::worked_examples;
 pub use expr::{BinOp, Expr};
 pub use laws::{
     a_wanted_read_joins, greater_budgets_mean_the_same, known_records_cost, known_records_decide,
-    reads_cost, runs_stay_within_budgets, wants_are_due, wants_cost, wants_persist,
+    loops_unroll, reads_cost, runs_stay_within_budgets, wants_are_due, wants_cost, wants_persist,
 };
 pub use lookup::{lookup_means, lookup_program};
 pub use name::Name;
