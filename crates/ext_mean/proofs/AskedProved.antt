@@ -1,17 +1,15 @@
 -- Lists of reads that a run asked.
-use Rattle.std.proofs.Common.{◌≡◌, ◌≢◌, ℕ, ◌+◌, Bool, true, false, List, [], ◌∷◌, ◌++◌, length, Option, Some, None, refl, sym, ap, ◌∙◌, subst, arith, eq-eqb, append_assoc, append-nil, length-append, if◌then◌else◌}
-use Rattle.std.specs.Prelude.{◌&&◌}
-use Rattle.std.specs.Str.{bytes_eq}
+use Rattle.std.proofs.Common.{◌≡◌, ◌≢◌, ℕ, ◌+◌, Bool, true, false, List, [], ◌∷◌, ◌++◌, length, Option, Some, None, refl, sym, ◌∙◌, subst, eq-eqb, append_assoc, append-nil, length-append, if◌then◌else◌}
 use Rattle.std.proofs.lemmas.Slice.Eq.{bytes_eq-Decides}
 use Rattle.sp_base.specs.declared.numbers.TableId.{TableId}
 use Rattle.sp_base.specs.declared.reads.ReadItem.{ReadItem}
 use Rattle.sp_base.specs.declared.rights.Level.{Level}
 use Rattle.sp_base.specs.Places.{Place, same_place}
 use Rattle.ext_mean.specs.declared.tree.Program.{Program}
-use Rattle.ext_mean.specs.Asked.{AskedBehind, AreAsked, IsWanted, WantedReadJoins, ReadsCost}
-use Rattle.ext_mean.specs.Laws.{Answered, NoneYet, OneMore, place_in}
+use Rattle.ext_mean.specs.Asked.{AskedBehind, IsWanted, WantedReadJoins, ReadsCost}
+use Rattle.ext_mean.specs.Laws.{Answered, NoneYet, OneMore}
 use Rattle.ext_mean.specs.Meaning.{mean}
-use Rattle.ext_mean.specs.Views.{View, Extends, part, place_of, value_read}
+use Rattle.ext_mean.specs.Views.{Extends, part, place_of, value_read}
 use Rattle.ext_mean.proofs.WantsProved.{cost}
 
 same_place-refl : (place : Place) → same_place place place ≡ true

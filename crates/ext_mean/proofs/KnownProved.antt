@@ -1,5 +1,5 @@
 -- What the known records that a run asks cost.
-use Rattle.std.proofs.Common.{◌≡◌, ◌≢◌, ◌⊎◌, inl, inr, ℕ, zero, suc, ◌+◌, ◌-◌, ◌*◌, ◌/◌, ◌≤◌, ◌<◌, Bool, true, false, List, [], ◌∷◌, length, Option, Some, None, refl, sym, ap, ◌∙◌, subst, arith, eqb, if◌then◌else◌}
+use Rattle.std.proofs.Common.{◌≡◌, ◌≢◌, ◌⊎◌, inl, inr, ℕ, suc, ◌+◌, ◌-◌, ◌/◌, ◌≤◌, ◌<◌, Bool, true, false, List, [], ◌∷◌, length, Option, Some, None, refl, sym, ap, ◌∙◌, subst, arith, eqb, if◌then◌else◌}
 use Rattle.std.specs.List.{IsDistinct, AllByRecursion, list_any}
 use Rattle.std.proofs.lemmas.Bool.{eqb-true}
 use Rattle.std.proofs.lemmas.Bool.Decides.{nat_tests}
@@ -13,12 +13,11 @@ use Rattle.ext_mean.specs.declared.run.Run.{Run}
 use Rattle.ext_mean.specs.declared.run.Run.TheVariants.{Done, Trapped, Spent, Wants}
 use Rattle.ext_mean.specs.declared.tree.Program.{Program}
 use Rattle.ext_mean.specs.Asked.{without, AsksRecord, KnownRecordsCost}
-use Rattle.ext_mean.specs.Laws.{WantsPersist, IsDue, place_in}
-use Rattle.ext_mean.specs.Meaning.{mean, main_of, start, ended}
+use Rattle.ext_mean.specs.Laws.{WantsPersist, place_in}
+use Rattle.ext_mean.specs.Meaning.{mean, start, ended}
 use Rattle.ext_mean.specs.Outcomes.{outcome_of}
 use Rattle.ext_mean.specs.Views.{View, Extends}
-use Rattle.ext_mean.specs.Work.{World}
-use Rattle.ext_mean.proofs.Agreement.{Mark, Going, Grows, Owes}
+use Rattle.ext_mean.proofs.Agreement.{Mark, Going, Grows}
 use Rattle.ext_mean.proofs.AgreeingPrograms.{main-agrees}
 use Rattle.ext_mean.proofs.LawsProved.{world_of, run_of, mean-ended, same-end, known-records}
 use Rattle.ext_mean.proofs.WantsProved.{knowing, same-meaning, next-want, are-due}

@@ -1,19 +1,16 @@
 -- A loop is one turn with the loop behind it.
-use Rattle.std.proofs.Common.{◌≡◌, ℕ, zero, suc, ◌+◌, ◌≤◌, Bool, true, false, List, Option, Some, None, refl, sym, ap, ◌∙◌, subst, arith, nat_le, if◌then◌else◌}
+use Rattle.std.proofs.Common.{◌≡◌, ℕ, zero, suc, ◌+◌, ◌≤◌, Bool, true, false, Option, Some, None, refl, sym, arith, nat_le, if◌then◌else◌}
 use Rattle.std.proofs.lemmas.Bool.{leb-true}
-use Rattle.ext_mean.specs.declared.expr.Expr.{Expr}
 use Rattle.ext_mean.specs.declared.run.Run.TheVariants.{Spent}
 use Rattle.ext_mean.specs.declared.state.State.{State}
 use Rattle.ext_mean.specs.declared.state.Value.{Value}
-use Rattle.ext_mean.specs.declared.statement.Block.{Block}
-use Rattle.ext_mean.specs.declared.tree.Function.{Function}
 use Rattle.ext_mean.specs.Loops.{turn, LoopsUnroll}
-use Rattle.ext_mean.specs.Work.{World, Step, Next, Ends, Work, after, ◌>>=◌, give, charge}
+use Rattle.ext_mean.specs.Work.{World, Step, Next, Ends, Work, after, ◌>>=◌, give}
 use Rattle.ext_mean.specs.MeaningExpressions.{evaluate}
 use Rattle.ext_mean.specs.MeaningValues.{truth_of}
-use Rattle.ext_mean.specs.MeaningStatements.{Course, behind, branch, run_block, turns}
+use Rattle.ext_mean.specs.MeaningStatements.{Course, behind, run_block, turns}
 use Rattle.ext_mean.specs.Meaning.{call_below}
-use Rattle.ext_mean.proofs.Agreement.{mark, Uses, Owes, Owing}
+use Rattle.ext_mean.proofs.Agreement.{mark, Owes, Owing}
 use Rattle.ext_mean.proofs.AgreeingExpressions.{evaluate-agrees}
 use Rattle.ext_mean.proofs.AgreeingStatements.{run_block-agrees}
 use Rattle.ext_mean.proofs.AgreeingPrograms.{calls-agree}

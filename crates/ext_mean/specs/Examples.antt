@@ -19,7 +19,7 @@ use Rattle.ext_mean.specs.declared.tree.Program.{Program}
 use Rattle.ext_mean.specs.Views.{View}
 use Rattle.ext_mean.specs.Lookup.{block_of}
 use Rattle.ext_mean.specs.Meaning.{mean}
-use Rattle.ext_mean.specs.ProgramItems.{Item, Head, Body, program_items}
+use Rattle.ext_mean.specs.ProgramItems.{Head, Body, program_items}
 use Rattle.ext_mean.specs.declared.statement.Statement.TheOpen.{Statement-F}
 
 -- the function `main` with these statements, and a program of it alone
