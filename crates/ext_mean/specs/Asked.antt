@@ -16,14 +16,16 @@ abbrev pub IsWanted : Run → ReadItem → Type 0
 IsWanted run read = (used : ℕ) × (run ≡ Wants read.table read.key used)
 
 -- each of the later reads is, in order, what the meaning wants on those before it
-abbrev pub AskedBehind : Program → List ℕ → ℕ → List (TableId × Level) → List ReadItem → List ReadItem → Type 0
+abbrev pub AskedBehind :
+    Program → List ℕ → ℕ → List (TableId × Level) → List ReadItem → List ReadItem → Type 0
 AskedBehind program args budget rights earlier [] = Unit {0}
 AskedBehind program args budget rights earlier (read ∷ later) =
     IsWanted (mean program args budget (part earlier rights)) read
     × AskedBehind program args budget rights (earlier ++ read ∷ []) later
 
 -- the reads are, in order, those that the meaning wants on the earlier ones
-pub record AreAsked (program : Program) (args : List ℕ) (budget : ℕ) (rights : List (TableId × Level)) (reads : List ReadItem) : Type 0 where
+pub record AreAsked (program : Program) (args : List ℕ) (budget : ℕ)
+    (rights : List (TableId × Level)) (reads : List ReadItem) : Type 0 where
   pub in_turn : AskedBehind program args budget rights [] reads
 
 -- a read that the meaning wants on the reads asked joins them

@@ -49,6 +49,10 @@ ends_with code bytes writes used = Done (record { code = code; bytes = bytes }) 
 abbrev pub written : ℕ → List ℕ → Write
 written byte key = record { table = record { 0 = 2 }; key = key; change = change.Put (byte ∷ []) }
 
+-- the change that deletes a record of table 2
+abbrev pub deleted : List ℕ → Write
+deleted key = record { table = record { 0 = 2 }; key = key; change = change.Del }
+
 -- shorter names for the pieces of programs
 abbrev pub num : ℕ → Expr
 num = expr.Number
@@ -236,8 +240,8 @@ pub record Examples : Type 0 where
   pub counts_to_three : mean counting [] 99 unknown ≡ ends_with 3 [] [] 10
   pub spent_in_an_expression : mean two_units [] 2 unknown ≡ Spent
   pub pays_for_its_bytes : mean two_units [] 4 unknown ≡ ends_with 0 [] [] 4
-  pub sees_its_write : mean own_write [] 99 unknown ≡ ends_with 0 (codes "A") (record { table = record { 0 = 2 }; key = codes "k"; change = change.Put (codes "A") } ∷ []) 22
-  pub sees_its_deletion : mean own_deletion [] 99 (everywhere (Some (codes "v"))) ≡ ends_with 2 [] (record { table = record { 0 = 2 }; key = codes "k"; change = change.Del } ∷ []) 19
+  pub sees_its_write : mean own_write [] 99 unknown ≡ ends_with 0 (codes "A") (written 65 (codes "k") ∷ []) 22
+  pub sees_its_deletion : mean own_deletion [] 99 (everywhere (Some (codes "v"))) ≡ ends_with 2 [] (deleted (codes "k") ∷ []) 19
   pub wants_the_record : mean one_read [] 99 unknown ≡ Wants (record { 0 = 1 }) (codes "k") 17
   pub goes_on_with_the_record : mean one_read [] 99 (everywhere (Some (codes "v"))) ≡ ends_with 0 (codes "v") [] 19
   pub goes_on_without_it : mean one_read [] 99 (everywhere None) ≡ ends_with 0 [] [] 18
@@ -256,4 +260,7 @@ pub record Examples : Type 0 where
   pub blocks_have_their_variables : mean inner_scope [] 9 unknown ≡ ends_with 7 [] [] 6
   pub returns_out_of_a_loop : mean left_loop [] 9 unknown ≡ ends_with 5 [] [] 3
   -- a function's head is item 0, and a statement stands before those in its blocks
-  pub numbers_its_items : program_items (choice (expr.Truth true)) ≡ Head (codes "main") [] kind.Int ∷ Body (Statement-F.If (expr.Truth true) tt tt) ∷ Body (Statement-F.Return (num 1)) ∷ Body (Statement-F.Return (num 2)) ∷ []
+  pub numbers_its_items :
+      program_items (choice (expr.Truth true))
+      ≡ Head (codes "main") [] kind.Int ∷ Body (Statement-F.If (expr.Truth true) tt tt)
+      ∷ Body (Statement-F.Return (num 1)) ∷ Body (Statement-F.Return (num 2)) ∷ []
