@@ -1,10 +1,10 @@
 ghost use Rattle.std.specs.Prelude.{◌≤◌, length};
-ghost use Rattle.ext_mean.specs.Meaning.{mean};
+ghost use Rattle.ext_mean.specs.KeyLookups.{mean};
 ghost use Rattle.ext_mean.specs.Outcomes.{EndsWith};
 ghost use Rattle.ext_mean.specs.Views.{part};
 ghost use Rattle.book.specs.Asked.{AreAsked};
 
-use ext_mean::Program;
+use ext_mean::KeyLookup;
 use sp_base::{Call, Outcome, Reads, Rights, Writes};
 
 /// A run that has ended: what its program means on the records that it read, and these are in order
@@ -12,7 +12,7 @@ use sp_base::{Call, Outcome, Reads, Rights, Writes};
 #[derive(Debug, Drop)]
 pub struct Finished {
     pub call: Call,
-    pub program: Program,
+    pub program: KeyLookup,
     /// The rights with which it ran.
     pub rights: Rights,
     /// At most 6,250.

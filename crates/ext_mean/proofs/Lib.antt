@@ -1,1 +1,16 @@
-pub mod LawProofs
+pub mod Agreement
+pub mod AgreeingWork
+pub mod Equations
+pub mod AgreeingExpressions
+pub mod Pieces
+pub mod AgreeingStatements
+pub mod AgreeingPrograms
+pub mod LawsProved
+pub mod WantsProved
+pub mod LookupProved
+pub mod ItemEquations
+pub mod ExamplesProved
+pub mod AskedProved
+pub mod KnownProved
+pub mod LoopsProved
+pub mod KeyLookupProofs

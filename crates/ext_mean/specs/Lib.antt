@@ -1,6 +1,16 @@
 pub mod Views
 pub mod Work
+pub mod MeaningValues
+pub mod MeaningExpressions
+pub mod MeaningStatements
 pub mod Meaning
 pub mod Outcomes
+pub mod Lookup
 pub mod Text
+pub mod ProgramItems
+pub mod Loops
 pub mod Laws
+pub mod Asked
+pub mod Examples
+pub mod KeyLookups
+pub mod KeyLookupLaws

@@ -1,4 +1,6 @@
-ghost use Rattle.ext_mean.specs.Laws.{GreaterBudgetsMeanTheSame, KnownRecordsDecide, OnlyReadableIsWanted, OnlyWritableIsChanged, RunsAreWithinLimits};
+ghost use Rattle.ext_mean.specs.Loops.{LoopsUnroll};
+ghost use Rattle.ext_mean.specs.Laws.{GreaterBudgetsMeanTheSame, KnownRecordsDecide, RunsStayWithinBudgets, WantsAreDue, WantsCost, WantsPersist};
+ghost use Rattle.ext_mean.specs.Asked.{KnownRecordsCost, ReadsCost, WantedReadJoins};
 
 /// Where the meaning with some units is not spent, it is the same with every greater number.
 pub fn greater_budgets_mean_the_same()
@@ -10,17 +12,42 @@ pub fn known_records_decide()
     ensures { KnownRecordsDecide }
 {}
 
-/// A run wants only places that its rights let it read.
-pub fn only_readable_is_wanted()
-    ensures { OnlyReadableIsWanted }
+/// No run uses more than its budget.
+pub fn runs_stay_within_budgets()
+    ensures { RunsStayWithinBudgets }
 {}
 
-/// A run changes only tables that its rights let it write.
-pub fn only_writable_is_changed()
-    ensures { OnlyWritableIsChanged }
+/// A run wants only what its view does not know and its rights let be read, behind 16 units.
+pub fn wants_are_due()
+    ensures { WantsAreDue }
 {}
 
-/// A run answers and changes no more than the limits allow.
-pub fn runs_are_within_limits()
-    ensures { RunsAreWithinLimits }
+/// The next want after some that were answered comes 16 units behind each of them.
+pub fn wants_cost()
+    ensures { WantsCost }
+{}
+
+/// A read that the meaning wants on the reads asked joins them.
+pub fn a_wanted_read_joins()
+    ensures { WantedReadJoins }
+{}
+
+/// Where the meaning wants a record on the reads asked, it has used 16 units for it and for each.
+pub fn reads_cost()
+    ensures { ReadsCost }
+{}
+
+/// Where a view does not know what the meaning wants on a smaller one, the meaning is the same on it.
+pub fn wants_persist()
+    ensures { WantsPersist }
+{}
+
+/// Where the meaning wants a record, it has used 16 units for it and for each known one it asked.
+pub fn known_records_cost()
+    ensures { KnownRecordsCost }
+{}
+
+/// A loop is one turn with the loop behind it: no bound but the budget ends it.
+pub fn loops_unroll()
+    ensures { LoopsUnroll }
 {}

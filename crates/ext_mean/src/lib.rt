@@ -1,19 +1,33 @@
 //! The extension language: its tree, and what an extension means on the records that it reads.
-//!
-//! The tree has the one form of extension that scripts may install today: it looks its arguments up
-//! in one table, appends what it finds to its reply, and returns a number.
 #![tactic(auto)]
 
+mod examples;
+mod expr;
+mod key_lookup;
+mod key_lookup_laws;
 mod laws;
+mod lookup;
+mod name;
 mod run;
+mod share;
+mod state;
+mod statement;
 mod tree;
 
+pub use examples::worked_examples;
+pub use expr::{BinOp, Expr};
+pub use key_lookup::KeyLookup;
+pub use key_lookup_laws::{a_look_up_means_its_tree, greater_budgets_look_up_the_same, known_records_decide_look_ups, only_readable_is_wanted, only_writable_is_changed, runs_are_within_limits};
 pub use laws::{
-    greater_budgets_mean_the_same, known_records_decide, only_readable_is_wanted,
-    only_writable_is_changed, runs_are_within_limits,
+    a_wanted_read_joins, greater_budgets_mean_the_same, known_records_cost, known_records_decide,
+    loops_unroll, reads_cost, runs_stay_within_budgets, wants_are_due, wants_cost, wants_persist,
 };
+pub use lookup::{lookup_means, lookup_program};
+pub use name::Name;
 pub use run::Run;
-pub use tree::Program;
+pub use state::{Buffer, Local, State, Value};
+pub use statement::{Block, Kind, Statement};
+pub use tree::{Function, Param, Program};
 
 #[cfg(test)]
 mod tests;

@@ -1,22 +1,25 @@
-ghost use Rattle.std.specs.Prelude.{◌≡◌, IfOk};
+use crate::name::Name;
+use crate::statement::{Block, Kind};
+use sqlite_items::Items;
 
-use sp_base::Memory;
-use std::alloc::Global;
-
-/// An extension: `fn main() -> int { get(TABLE, args()) { some s => { resp(s); } none => { } } return CODE; }`.
-#[derive(Clone, Copy, Debug, PartialEq, Eq)]
+/// An extension: its functions, of which the last is `main`.
+#[derive(Drop)]
 pub struct Program {
-    /// The table in which the arguments are looked up, any number of the language.
-    pub table: u64,
-    /// The number that `main` returns.
-    pub code: u64,
+    pub functions: Items<Function>,
 }
 
-impl Program {
-    /// An equal tree.
-    pub fn share(&self, _alloc: Global) -> Result<Program, Memory>
-        ensures { IfOk result (λ program. program ≡ self.now) }
-    {
-        Ok(*self)
-    }
+/// `fn name(params) -> result { .. }`
+#[derive(Drop)]
+pub struct Function {
+    pub name: Name,
+    pub params: Items<Param>,
+    pub result: Kind,
+    pub body: Block,
+}
+
+/// `name: kind`
+#[derive(Drop)]
+pub struct Param {
+    pub name: Name,
+    pub kind: Kind,
 }

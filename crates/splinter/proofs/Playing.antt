@@ -2,7 +2,7 @@
 use Rattle.std.specs.Prelude.{nat_lt, map, if◌then◌else◌}
 use Rattle.std.proofs.Common.{◌≡◌, ◌<◌, ◌≤◌, ◌+◌, Bool, true, false, List, [], ◌∷◌, ◌++◌, length, refl, ap, sym, ◌∙◌, subst, inl, inr, append_assoc}
 use Rattle.sp_base.specs.declared.numbers.TenantId.{TenantId}
-use Rattle.ext_mean.specs.declared.tree.Program.{Program}
+use Rattle.ext_mean.specs.declared.key_lookup.KeyLookup.{KeyLookup}
 use Rattle.ext_mean.specs.declared.run.Run.{Run}
 use Rattle.ext_mean.specs.declared.run.Run.TheVariants as run
 use Rattle.book.specs.declared.answers.Commit.{Commit}
@@ -59,7 +59,7 @@ turned-grants book live (run.Trapped trap used) = commit-grants _ book _
 turned-grants book live run.Spent =
     either-grants book (nat_lt (live.spent + quantum) live.call.budget) _ _ refl (commit-grants _ book _)
 
-drains-grants : {program : Program} {rights : RightsList} {book : BookValue} {live : Live} {lines : List Line} {after : BookValue}
+drains-grants : {program : KeyLookup} {rights : RightsList} {book : BookValue} {live : Live} {lines : List Line} {after : BookValue}
     → Drains program rights book live lines after → after.grants ≡ book.grants
 drains-grants {program} {rights} (last_turn book live said after is_last) =
     ap (λ (t : Turned). (book_after book t).grants) (sym is_last) ∙ turned-grants book live _

@@ -2,8 +2,8 @@
 use Rattle.std.proofs.Common.{◌≡◌, ℕ, List, [], ◌∷◌, ◌++◌, codes, refl, ap, ◌∙◌, append_assoc}
 use Rattle.std.specs.Fmt.{decimal}
 use Rattle.std.specs.List.{concat}
-use Rattle.ext_mean.specs.declared.tree.Program.{Program}
-use Rattle.ext_mean.specs.Text.{text_of}
+use Rattle.ext_mean.specs.declared.key_lookup.KeyLookup.{KeyLookup}
+use Rattle.ext_mean.specs.KeyLookups.{text_of}
 use Rattle.splinter.specs.declared.script.Script.{Script}
 use Rattle.splinter.specs.Fields.{byte_field}
 use Rattle.splinter.specs.Script.{newline, level_word, tenant_line, table_line, put_line, ext_line, begin_line, script_text}
@@ -22,7 +22,7 @@ concat-joined (piece ∷ pieces) rest = append_assoc piece (concat pieces) rest 
 six : (a b c d e f rest : List ℕ) → (a ++ b ++ c ++ d ++ e ++ f) ++ rest ≡ a ++ (b ++ (c ++ (d ++ (e ++ (f ++ rest)))))
 six a b c d e f rest = simp append_assoc
 
-program_text : (program : Program) (rest : List ℕ) → text_of program ++ rest ≡ program_front ++ (decimal program.table ++ (program_middle ++ (decimal program.code ++ (codes "; }" ++ (newline ++ rest)))))
+program_text : (program : KeyLookup) (rest : List ℕ) → text_of program ++ rest ≡ program_front ++ (decimal program.table ++ (program_middle ++ (decimal program.code ++ (codes "; }" ++ (newline ++ rest)))))
 program_text program rest = six program_front (decimal program.table) program_middle (decimal program.code) (codes "; }") newline rest
 
 tenant_text : (script : Script) (rest : List ℕ) → tenant_line script ++ (newline ++ rest) ≡ spelled_tenant (script.tenant.0, script.key) rest

@@ -7,7 +7,7 @@ use Rattle.sp_base.specs.declared.numbers.TenantId.{TenantId}
 use Rattle.sp_base.specs.declared.rights.Level.{Level}
 use Rattle.sp_base.specs.declared.rights.Level.TheVariants.{Nothing, Read, Write}
 use Rattle.sp_base.specs.Limits.{IsKey, IsValue, IsArguments}
-use Rattle.ext_mean.specs.Text.{text_of}
+use Rattle.ext_mean.specs.KeyLookups.{text_of}
 use Rattle.splinter.specs.declared.script.Script.{Script}
 use Rattle.splinter.specs.Fields.{AreBytes, byte_field}
 

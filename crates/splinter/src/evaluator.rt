@@ -3,11 +3,11 @@
 ghost use Rattle.std.specs.Prelude.{◌≡◌, ◌≤◌, IfOk};
 ghost use Rattle.std.specs.Option.{option_copied, option_map};
 ghost use Rattle.sp_base.specs.Places.{same_place};
-ghost use Rattle.ext_mean.specs.Meaning.{mean};
+ghost use Rattle.ext_mean.specs.KeyLookups.{mean};
 ghost use Rattle.ext_mean.specs.Views.{part, place_of, value_read};
 ghost use Rattle.splinter.specs.Steps.{answered, returned};
 
-use ext_mean::{Program, Run};
+use ext_mean::{KeyLookup, Run};
 use sp_base::{
     Blob, Key, KeyFault, Level, Memory, ReadItem, Reply, Rights, TableId, Trap, Writes, same_bytes,
 };
@@ -38,7 +38,7 @@ fn is_at(read: &ReadItem, table: u64, key: &[u8]) -> bool
 /// The meaning of a program with these arguments and this budget, on the records read.
 pub fn evaluate(
     alloc: Global,
-    program: &Program,
+    program: &KeyLookup,
     args: &[u8],
     budget: u32,
     rights: &Rights,
@@ -81,7 +81,7 @@ pub fn evaluate(
 /// What follows the read: the reply and the code.
 fn answer(
     alloc: Global,
-    program: &Program,
+    program: &KeyLookup,
     budget: u32,
     value: Option<&Blob>,
 ) -> Result<Run, Memory>
@@ -106,7 +106,7 @@ fn answer(
 /// The `return`, with the last of so many units.
 fn finished(
     alloc: Global,
-    program: &Program,
+    program: &KeyLookup,
     budget: u32,
     bytes: &[u8],
     used: u32,

@@ -1,7 +1,7 @@
 //! What a script does: its events in order, and then turns until its call has ended.
 
 ghost use Rattle.std.specs.Prelude.{◌≡◌, ◌≤◌, ◌<◌, ◌^◌, [], ◌∷◌, ◌++◌, length, IfOk, OnOk};
-ghost use Rattle.ext_mean.specs.Text.{text_of};
+ghost use Rattle.ext_mean.specs.KeyLookups.{text_of};
 ghost use Rattle.sp_base.specs.Limits.{IsArguments, IsValue};
 ghost use Rattle.book.specs.Folds.{texts_of};
 ghost use Rattle.book.specs.GrantsList.{rights_of};
@@ -17,7 +17,7 @@ use crate::script::Script;
 use crate::text::Text;
 use crate::turn::{Step, turn};
 use book::{Book, Ext, Grants, Install, MOST_ENTRIES, Put};
-use ext_mean::Program;
+use ext_mean::KeyLookup;
 use sp_base::{Blob, Call, Key, Memory, Reads, Rights, TableId, TenantId};
 use std::alloc::Global;
 
@@ -80,7 +80,7 @@ fn at(number: u32, line: Line) -> Answer
 fn begin(
     alloc: Global,
     book: &mut Book,
-    program: &Program,
+    program: &KeyLookup,
     call: Call,
     answers: &mut Vec<Answer>,
 ) -> Result<(), Memory>
@@ -139,7 +139,7 @@ fn install(
     alloc: Global,
     book: &mut Book,
     tenant: TenantId,
-    program: Program,
+    program: KeyLookup,
 ) -> Result<Line, Memory>
     requires table { program.table < 2 ^ 64 }
     requires code { program.code < 2 ^ 64 }
@@ -157,7 +157,7 @@ fn install(
 }
 
 /// The text of a program.
-fn source(alloc: Global, program: Program) -> Result<Blob, Memory>
+fn source(alloc: Global, program: KeyLookup) -> Result<Blob, Memory>
     ensures { IfOk result (λ text. text ≡ text_of program) }
 {
     let mut text = Text::new(alloc);
@@ -173,7 +173,7 @@ fn source(alloc: Global, program: Program) -> Result<Blob, Memory>
 fn drain(
     alloc: Global,
     book: &mut Book,
-    program: &Program,
+    program: &KeyLookup,
     live: Live,
     answers: &mut Vec<Answer>,
 ) -> Result<(), Memory>

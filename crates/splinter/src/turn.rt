@@ -1,7 +1,7 @@
 //! One turn of a live call.
 
 ghost use Rattle.std.specs.Prelude.{◌≡◌, ◌≢◌, ◌≤◌, ◌<◌, ◌+◌, [], length, IfOk};
-ghost use Rattle.ext_mean.specs.Meaning.{mean};
+ghost use Rattle.ext_mean.specs.KeyLookups.{mean};
 ghost use Rattle.ext_mean.specs.Outcomes.{EndsWith, wanted_by};
 ghost use Rattle.ext_mean.specs.Views.{part};
 ghost use Rattle.book.specs.GrantsList.{rights_of};
@@ -13,7 +13,7 @@ use crate::evaluator::evaluate;
 use crate::line::{Line, Said};
 use crate::live::Live;
 use book::{Book, Commit, Finished, Read};
-use ext_mean::{Program, Run};
+use ext_mean::{KeyLookup, Run};
 use sp_base::{Key, Memory, Outcome, TableId, Writes};
 use std::alloc::Global;
 
@@ -30,7 +30,7 @@ pub enum Step {
 }
 
 /// Gives a live call one turn: its meaning with one quantum more than it has spent decides.
-pub fn turn(alloc: Global, book: &mut Book, program: &Program, live: Live) -> Result<Step, Memory>
+pub fn turn(alloc: Global, book: &mut Book, program: &KeyLookup, live: Live) -> Result<Step, Memory>
     requires { IsLive program.now book.old live }
     ensures turn { IfOk result (λ step. StepIs step
         (turn_of program.now (rights_of book.old.grants live.call.caller.tenant) book.old live) book.old book.new) }
@@ -56,7 +56,7 @@ pub fn turn(alloc: Global, book: &mut Book, program: &Program, live: Live) -> Re
 }
 
 /// The meaning of a call with one quantum more than it has spent, on the records that it has read.
-fn meaning_now(alloc: Global, book: &Book, program: &Program, live: &Live) -> Result<Run, Memory>
+fn meaning_now(alloc: Global, book: &Book, program: &KeyLookup, live: &Live) -> Result<Run, Memory>
     requires { IsLive program.now book.now live.now }
     ensures { IfOk result (λ run. run ≡ meaning_of_turn program.now
         (rights_of book.now.grants live.now.call.caller.tenant) live.now) }
@@ -70,7 +70,7 @@ fn meaning_now(alloc: Global, book: &Book, program: &Program, live: &Live) -> Re
 /// The call ends by the verdict on its entry.
 fn end(
     book: &mut Book,
-    program: &Program,
+    program: &KeyLookup,
     live: Live,
     outcome: Outcome,
     writes: Writes,
@@ -129,7 +129,7 @@ fn said(commit: Commit) -> Result<Said, Memory>
 /// The wanted record joins the reads.
 fn read(
     book: &Book,
-    program: &Program,
+    program: &KeyLookup,
     live: Live,
     table: TableId,
     key: Key,

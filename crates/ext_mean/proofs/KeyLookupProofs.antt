@@ -1,7 +1,7 @@
--- The laws of the meaning, for the layers above.
+-- The laws of the meaning of look-ups, for the layers above.
 use Rattle.std.proofs.Common.{arith}
 use Rattle.std.proofs.lemmas.Grind.{common_steps}
-use Rattle.ext_mean.specs.Laws.{GreaterBudgetsMeanTheSame, KnownRecordsDecide, OnlyReadableIsWanted, OnlyWritableIsChanged, RunsAreWithinLimits}
+use Rattle.ext_mean.specs.KeyLookupLaws.{GreaterBudgetsMeanTheSame, KnownRecordsDecide, OnlyReadableIsWanted, OnlyWritableIsChanged, RunsAreWithinLimits}
 
 pub greater-budgets : GreaterBudgetsMeanTheSame
 greater-budgets program args budget greater view within not_spent = grind (arith, common_steps)
