@@ -5,5 +5,13 @@ pub mod MeaningExpressions
 pub mod MeaningStatements
 pub mod Meaning
 pub mod Outcomes
+pub mod LookupText
+pub mod Tokens
+pub mod Grammar
+pub mod Derived
+pub mod Wording
+pub mod Bounds
 pub mod Text
+pub mod SyntaxFaults
+pub mod Canonical
 pub mod Laws

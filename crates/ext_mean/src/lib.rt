@@ -1,6 +1,7 @@
 //! The extension language: its tree, and what an extension means on the records that it reads.
 #![tactic(auto)]
 
+mod codes;
 mod expr;
 mod laws;
 mod lookup;
@@ -8,8 +9,10 @@ mod name;
 mod run;
 mod state;
 mod statement;
+mod token;
 mod tree;
 
+pub use codes::SyntaxCode;
 pub use expr::{BinOp, Expr};
 pub use laws::{
     greater_budgets_mean_the_same, known_records_decide, runs_stay_within_budgets, wants_are_due,
@@ -20,6 +23,7 @@ pub use name::Name;
 pub use run::Run;
 pub use state::{Buffer, Local, State, Value};
 pub use statement::{Block, Kind, Statement};
+pub use token::{Mark, Token, Word};
 pub use tree::{Function, Param, Program};
 
 #[cfg(test)]
