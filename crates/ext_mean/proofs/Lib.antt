@@ -7,3 +7,4 @@ pub mod AgreeingStatements
 pub mod AgreeingPrograms
 pub mod LawsProved
 pub mod WantsProved
+pub mod CanonicalForms

@@ -10,8 +10,9 @@ use Rattle.ext_mean.specs.declared.expr.Expr.TheOpen.{Expr-F}
 use Rattle.ext_mean.specs.declared.expr.Expr.TheFolds.{fold-Expr}
 use Rattle.ext_mean.specs.declared.statement.Kind.{Kind}
 use Rattle.ext_mean.specs.declared.statement.Block.{Block}
+use Rattle.ext_mean.specs.declared.statement.Statement.{Statement}
 use Rattle.ext_mean.specs.declared.statement.Statement.TheOpen.{Statement-F}
-use Rattle.ext_mean.specs.declared.statement.Statement.TheFolds.{fold-Block}
+use Rattle.ext_mean.specs.declared.statement.Statement.TheFolds.{fold-Statement, fold-Block}
 use Rattle.ext_mean.specs.declared.token.Word.{Word}
 use Rattle.ext_mean.specs.declared.token.Word.TheVariants as word
 use Rattle.ext_mean.specs.declared.token.Mark.TheVariants as mark
@@ -120,6 +121,11 @@ abbrev pub else_shown : List (List Token) → List Token
 else_shown [] = []
 else_shown (first ∷ more) = token.Word word.Else ∷ braced (first ∷ more)
 
+-- `let name: type =`
+abbrev pub declared_shown : List ℕ → Kind → List Token
+declared_shown name of =
+    token.Word word.Let ∷ token.Name name ∷ colon ∷ kind_token of ∷ assigns ∷ []
+
 abbrev pub let_shown : List ℕ → Kind → List Token → List Token
 let_shown name of value =
     token.Word word.Let ∷ token.Name name ∷ colon ∷ kind_token of ∷ assigns ∷ (value ++ semicolon ∷ [])
@@ -164,7 +170,10 @@ statement_shown (Statement-F.Resp value) =
 statement_shown (Statement-F.Return value) =
     token.Word word.Return ∷ (expression_tokens value ++ semicolon ∷ [])
 
--- a block's statements, each by its tokens
+-- a statement's tokens, and those of each statement of a block
+unfoldable pub sentence_shown : Statement → List Token
+sentence_shown = fold-Statement (List Token) (List (List Token)) statement_shown (λ block. block.items)
+
 unfoldable pub block_shown : Block → List (List Token)
 block_shown = fold-Block (List Token) (List (List Token)) statement_shown (λ block. block.items)
 

@@ -3,7 +3,8 @@ use Rattle.std.specs.Prelude.{◌≡◌, ◌<◌, ◌≤◌, ℕ, ◌+◌, false
 use Rattle.ext_mean.specs.declared.codes.SyntaxCode.{SyntaxCode}
 use Rattle.ext_mean.specs.declared.codes.SyntaxCode.TheVariants as code
 use Rattle.ext_mean.specs.declared.token.Token.{Token}
-use Rattle.ext_mean.specs.Tokens.{Placed, Tokens, tokens_of, IsGap, BeginsWith, is_blank, is_text_byte, is_comment_byte, all_pass, newlines}
+use Rattle.ext_mean.specs.declared.token.Placed.{Placed}
+use Rattle.ext_mean.specs.Tokens.{Tokens, tokens_of, IsGap, BeginsWith, is_blank, is_text_byte, is_comment_byte, all_pass, newlines}
 use Rattle.ext_mean.specs.Grammar.{Whole}
 use Rattle.ext_mean.specs.Wording.{Slot, slot_tokens, program_slots, program_tokens}
 use Rattle.ext_mean.specs.Bounds.{IsTooLong, IsTooDeep, IsTooMany, AreBounded}

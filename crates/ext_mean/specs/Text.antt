@@ -1,7 +1,8 @@
 -- The text of an extension: which program it spells, and on which line each item begins.
 use Rattle.std.specs.Prelude.{◌≡◌, ◌≤◌, ℕ, List, [], ◌∷◌, ◌++◌, length}
 use Rattle.ext_mean.specs.declared.tree.Program.{Program}
-use Rattle.ext_mean.specs.Tokens.{Placed, Tokens, tokens_of, IsGap, newline}
+use Rattle.ext_mean.specs.declared.token.Placed.{Placed}
+use Rattle.ext_mean.specs.Tokens.{Tokens, tokens_of, IsGap, newline}
 use Rattle.ext_mean.specs.Grammar.{Whole}
 use Rattle.ext_mean.specs.Derived.{program_tree}
 use Rattle.ext_mean.specs.Wording.{Slot, Standing, begins, program_slots, program_tokens}

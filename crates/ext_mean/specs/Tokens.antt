@@ -6,6 +6,7 @@ use Rattle.ext_mean.specs.declared.token.Word.{Word}
 use Rattle.ext_mean.specs.declared.token.Word.TheVariants as word
 use Rattle.ext_mean.specs.declared.token.Mark.{Mark}
 use Rattle.ext_mean.specs.declared.token.Mark.TheVariants as mark
+use Rattle.ext_mean.specs.declared.token.Placed.{Placed}
 use Rattle.ext_mean.specs.declared.token.Token.{Token}
 use Rattle.ext_mean.specs.declared.token.Token.TheVariants as token
 
@@ -189,11 +190,6 @@ pub data IsGap : List ℕ → Type 0 where
   blank : {byte : ℕ} {rest : List ℕ} → IsTrue (is_blank byte) → IsGap rest → IsGap (byte ∷ rest)
   comment : {gap rest : List ℕ} (words : List ℕ) → IsTrue (all_pass is_comment_byte words) →
       gap ≡ words ++ newline ∷ rest → IsGap rest → IsGap (0x23 ∷ gap)
-
--- a token with the line of its first byte
-pub record Placed : Type 0 where
-  pub token : Token
-  pub line : ℕ
 
 -- The text, whose first byte is on this line, begins with these tokens, and then the rest comes.
 abbrev pub Tokens : List ℕ → ℕ → List Placed → List ℕ → Type 0

@@ -23,7 +23,7 @@ pub use name::Name;
 pub use run::Run;
 pub use state::{Buffer, Local, State, Value};
 pub use statement::{Block, Kind, Statement};
-pub use token::{Mark, Token, Word};
+pub use token::{Mark, Placed, Token, Word};
 pub use tree::{Function, Param, Program};
 
 #[cfg(test)]

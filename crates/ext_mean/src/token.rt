@@ -72,3 +72,10 @@ pub enum Token {
     Not,
     Binary(BinOp),
 }
+
+/// A token with the line of its first byte, counted from 1.
+#[derive(Debug, Drop)]
+pub struct Placed {
+    pub token: Token,
+    pub line: u32,
+}
