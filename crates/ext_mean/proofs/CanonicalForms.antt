@@ -8,11 +8,11 @@ use Rattle.ext_mean.specs.declared.expr.Expr.TheOpen.{Expr-F}
 use Rattle.ext_mean.specs.declared.expr.Expr.TheFolds.{fold-roll-Expr, map-Expr}
 use Rattle.ext_mean.specs.declared.statement.Kind.{Kind}
 use Rattle.ext_mean.specs.declared.statement.Statement.{Statement}
-use Rattle.ext_mean.specs.declared.statement.Block.{Block, out-Block}
+use Rattle.ext_mean.specs.declared.statement.Block.{Block}
 use Rattle.ext_mean.specs.declared.statement.Statement.TheVariants as does
 use Rattle.ext_mean.specs.declared.statement.Statement.TheViews.{roll-Statement, roll-Block}
 use Rattle.ext_mean.specs.declared.statement.Statement.TheOpen.{Statement-F, Block-F}
-use Rattle.ext_mean.specs.declared.statement.Statement.TheFolds.{fold-roll-Statement, fold-roll-Block, fold_out-Block, map-Statement, map-Block}
+use Rattle.ext_mean.specs.declared.statement.Statement.TheFolds.{fold-roll-Statement, fold-roll-Block, map-Statement, map-Block}
 use Rattle.ext_mean.specs.declared.token.Token.{Token}
 use Rattle.ext_mean.specs.Canonical.{Shown, shown, expression_shown, statement_shown, sentence_shown, block_shown}
 
@@ -138,8 +138,8 @@ pub sentence-Return : (value : Expr) → sentence_shown (does.Return value) ≡ 
 unfolding sentence_shown block_shown roll-Statement denote.Hole.Carrier.roll
 sentence-Return value = sentence-roll (Statement-F.Return value)
 
-pub block-items : (block : Block) → block_shown block ≡ map sentence_shown (out-Block block).items
-unfolding sentence_shown block_shown
-block-items block = fold_out-Block (List Token) (List (List Token)) statement_shown (λ block. block.items) block
+pub block-items : (block : Block) → block_shown block ≡ map sentence_shown block.items
+unfolding sentence_shown block_shown denote.Hole.Carrier.roll
+block-items block = fold-roll-Block (List Token) (List (List Token)) statement_shown (λ form. form.items) (record { items = block.items })
 
 pub ruleset sentence_forms = (sentence-Let, sentence-LetCall, sentence-Assign, sentence-If, sentence-While, sentence-Get, sentence-Multi, sentence-Set, sentence-Set8, sentence-Copy, sentence-Put, sentence-Del, sentence-Resp, sentence-Return, block-items)
