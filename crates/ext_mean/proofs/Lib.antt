@@ -14,3 +14,4 @@ pub mod AskedProved
 pub mod KnownProved
 pub mod LoopsProved
 pub mod KeyLookupProofs
+pub mod CanonicalForms

@@ -6,7 +6,14 @@ pub mod MeaningStatements
 pub mod Meaning
 pub mod Outcomes
 pub mod Lookup
+pub mod Tokens
+pub mod Grammar
+pub mod Derived
+pub mod Wording
+pub mod Bounds
 pub mod Text
+pub mod SyntaxFaults
+pub mod Canonical
 pub mod ProgramItems
 pub mod Loops
 pub mod Laws

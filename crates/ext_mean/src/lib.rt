@@ -1,6 +1,7 @@
 //! The extension language: its tree, and what an extension means on the records that it reads.
 #![tactic(auto)]
 
+mod codes;
 mod examples;
 mod expr;
 mod key_lookup;
@@ -12,8 +13,10 @@ mod run;
 mod share;
 mod state;
 mod statement;
+mod token;
 mod tree;
 
+pub use codes::SyntaxCode;
 pub use examples::worked_examples;
 pub use expr::{BinOp, Expr};
 pub use key_lookup::KeyLookup;
@@ -27,6 +30,7 @@ pub use name::Name;
 pub use run::Run;
 pub use state::{Buffer, Local, State, Value};
 pub use statement::{Block, Kind, Statement};
+pub use token::{Mark, Placed, Token, Word};
 pub use tree::{Function, Param, Program};
 
 #[cfg(test)]
