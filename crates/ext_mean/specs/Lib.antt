@@ -7,3 +7,7 @@ pub mod Meaning
 pub mod Outcomes
 pub mod Text
 pub mod Laws
+pub mod Items
+pub mod Types
+pub mod TypesOfItems
+pub mod Typing

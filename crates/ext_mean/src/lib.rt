@@ -1,6 +1,7 @@
 //! The extension language: its tree, and what an extension means on the records that it reads.
 #![tactic(auto)]
 
+mod check_codes;
 mod expr;
 mod laws;
 mod lookup;
@@ -10,6 +11,7 @@ mod state;
 mod statement;
 mod tree;
 
+pub use check_codes::{BorrowCode, TypeCode};
 pub use expr::{BinOp, Expr};
 pub use laws::{
     greater_budgets_mean_the_same, known_records_decide, runs_stay_within_budgets, wants_are_due,
