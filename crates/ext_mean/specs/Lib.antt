@@ -11,3 +11,7 @@ pub mod Items
 pub mod Types
 pub mod TypesOfItems
 pub mod Typing
+pub mod Origins
+pub mod Borrowing
+pub mod OwnedItems
+pub mod Ownership

@@ -1,6 +1,7 @@
 //! The extension language: its tree, and what an extension means on the records that it reads.
 #![tactic(auto)]
 
+mod borrowing;
 mod check_codes;
 mod expr;
 mod laws;
@@ -11,6 +12,7 @@ mod state;
 mod statement;
 mod tree;
 
+pub use borrowing::{Gift, Origin, Variable};
 pub use check_codes::{BorrowCode, TypeCode};
 pub use expr::{BinOp, Expr};
 pub use laws::{
