@@ -1,6 +1,7 @@
 -- Ownership of single items: buffers that are gone, frozen, borrowed for too long, or moved and
 -- borrowed by one call. Buffers that are gone are marked, by the numbers of variables.
 use Rattle.std.specs.Prelude.{ℕ, ◌+◌, ◌==◌, Bool, true, false, not, ◌&&◌, ◌||◌, List, [], ◌∷◌, ◌++◌, map, length, replicate, Option, Some, None, slice_get, slice_set, unwrap_or, nat_lt, if◌then◌else◌}
+use Rattle.std.specs.List.{list_any, zip}
 use Rattle.ext_mean.specs.declared.check_codes.BorrowCode.{BorrowCode}
 use Rattle.ext_mean.specs.declared.check_codes.BorrowCode.TheVariants as code
 use Rattle.ext_mean.specs.declared.borrowing.Variable.{Variable}
@@ -119,9 +120,7 @@ unmarked_all marks = replicate (length marks) false
 
 -- whether variables are gone after some items that were not gone before
 abbrev pub newly_gone : List Bool → List Bool → Bool
-newly_gone [] after = false
-newly_gone (first ∷ before) [] = false
-newly_gone (first ∷ before) (second ∷ after) = (not first && second) || newly_gone before after
+newly_gone before after = list_any (λ marks. not marks.0 && marks.1) (zip before after)
 
 -- the first code that applies
 abbrev pub first_code : Bool → Bool → Bool → Bool → Option BorrowCode

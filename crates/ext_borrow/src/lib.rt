@@ -1,0 +1,16 @@
+//! The ownership of an extension: no buffer is used when it is gone, changed while a slice of it may
+//! be read, or outlived by a slice, or the first faulty item is told, with its first code.
+#![tactic(auto)]
+
+mod arguments;
+mod frozen;
+mod marks;
+mod origins;
+mod progress;
+mod refusal;
+mod scene;
+mod table;
+
+pub use refusal::BorrowRefusal;
+pub use table::{Row, loans};
+pub use arguments::{moved_all, any_gone};
