@@ -1,2 +1,3 @@
 pub mod ProgressLemmas
 pub mod TableLemmas
+pub mod GivingEquations

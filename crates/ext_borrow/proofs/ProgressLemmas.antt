@@ -1,9 +1,9 @@
 -- Going on behind some items, and then behind more.
-use Rattle.std.proofs.Common.{◌≡◌, ℕ, ◌+◌, List, [], ◌∷◌, ◌++◌, length, Option, refl, ap, ◌∙◌, arith, add_assoc, length-append}
+use Rattle.std.proofs.Common.{◌≡◌, ℕ, ◌+◌, List, [], ◌∷◌, ◌++◌, length, Option, Some, None, refl, ap, ◌∙◌, arith, add_assoc, length-append}
 use Rattle.ext_mean.specs.declared.check_codes.BorrowCode.{BorrowCode}
 use Rattle.ext_mean.specs.Items.{noted, first_fault}
 use Rattle.ext_borrow.specs.declared.progress.Progress.{Progress}
-use Rattle.ext_borrow.specs.Progress.{after}
+use Rattle.ext_borrow.specs.Progress.{after, behind, first_found, joined}
 
 pub first_fault-append : {C : Type 0} (found : Option (ℕ × C)) (item : ℕ) (first second : List (Option C)) → first_fault found item (first ++ second) ≡ first_fault (first_fault found item first) (item + length first) second
 first_fault-append found item [] second =
@@ -22,5 +22,17 @@ after-append progress first second =
 -- the same for the first of some items
 pub after-step : (progress : Progress) (code : Option BorrowCode) (codes : List (Option BorrowCode)) → after progress (code ∷ codes) ≡ after (after progress (code ∷ [])) codes
 after-step progress code codes = after-append progress (code ∷ []) codes
+
+-- the items behind one, gone through apart
+found-first : (found : Option (ℕ × BorrowCode)) (item : ℕ) (codes : List (Option BorrowCode)) → first_fault found item codes ≡ first_found found (first_fault None item codes)
+found-first None item codes = refl
+found-first (Some fault) item [] = refl
+found-first (Some fault) item (code ∷ codes) = found-first (Some fault) (item + 1) codes ∙ refl
+
+pub joined-after : (progress noted inner : Progress) (own : Option BorrowCode) (codes : List (Option BorrowCode)) → noted ≡ after progress (own ∷ []) → inner ≡ after (behind progress) codes → joined noted inner ≡ after progress (own ∷ codes)
+joined-after progress noted inner own codes noted-is inner-is =
+    let e : (progress.item + 1) + length codes ≡ progress.item + length (own ∷ codes) = omega arith in
+    let f = found-first (after progress (own ∷ [])).found (progress.item + 1) codes in
+    rw (noted-is, inner-is) cc
 
 pub ruleset progress_lemmas = (after-append, after-step)

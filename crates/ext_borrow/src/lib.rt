@@ -4,6 +4,7 @@
 
 mod arguments;
 mod frozen;
+mod giving;
 mod marks;
 mod origins;
 mod progress;
@@ -14,3 +15,4 @@ mod table;
 pub use refusal::BorrowRefusal;
 pub use table::{Row, loans};
 pub use arguments::{moved_all, any_gone};
+pub use giving::gather_block;

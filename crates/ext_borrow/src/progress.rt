@@ -1,5 +1,5 @@
-ghost use Rattle.std.specs.Prelude.{◌≡◌, OnOk, [], ◌∷◌};
-ghost use Rattle.ext_borrow.specs.Progress.{after};
+ghost use Rattle.std.specs.Prelude.{◌≡◌, IfOk, OnOk, [], ◌∷◌};
+ghost use Rattle.ext_borrow.specs.Progress.{after, behind, joined};
 
 use ext_mean::BorrowCode;
 use sp_base::Memory;
@@ -30,5 +30,25 @@ impl Progress {
             }
             None => Err(Memory),
         }
+    }
+
+    /// The place behind this item, with nothing found.
+    pub fn behind(&self) -> Result<Progress, Memory>
+        ensures { IfOk result (λ progress. progress ≡ behind self.now) }
+    {
+        match self.item.checked_add(1) {
+            Some(item) => Ok(Progress { item, found: None }),
+            None => Err(Memory),
+        }
+    }
+
+    /// Goes on behind items that were gone through apart, from the place behind this one.
+    pub fn join(&mut self, inner: Progress)
+        ensures { self.new ≡ joined self.old inner }
+    {
+        if self.found.is_none() {
+            self.found = inner.found;
+        }
+        self.item = inner.item;
     }
 }
