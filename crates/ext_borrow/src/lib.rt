@@ -3,21 +3,19 @@
 #![tactic(auto)]
 
 mod arguments;
+mod check;
 mod frozen;
 mod giving;
 mod items;
 mod marks;
 mod origins;
+mod plain;
 mod progress;
 mod refusal;
 mod scene;
 mod state;
 mod table;
+mod walk;
 
+pub use check::check_borrows;
 pub use refusal::BorrowRefusal;
-pub use table::{Row, loans};
-pub use arguments::{moved_all, any_gone};
-pub use giving::gather_block;
-pub use state::{Walk, Outer};
-pub use scene::Scene;
-pub use items::{look_at, look_at_two, loop_on, loop_over, moving, changing, putting, assigning, calling};

@@ -1,6 +1,6 @@
-ghost use Rattle.std.specs.Prelude.{◌≡◌, ◌-◌, ◌++◌, OnOk, ◌∷◌, [], false, None, Some, replicate, length, slice_set, true, IfOk};
+ghost use Rattle.std.specs.Prelude.{◌≡◌, ◌-◌, ◌||◌, ◌++◌, OnOk, ◌∷◌, [], false, None, Some, replicate, length, slice_set, true, IfOk};
 ghost use Rattle.ext_mean.specs.Origins.{is_marked};
-ghost use Rattle.ext_mean.specs.OwnedItems.{marked, moves_marked, newly_gone};
+ghost use Rattle.ext_mean.specs.OwnedItems.{marked, moves_marked, newly_gone, unmarked};
 ghost use Rattle.ext_mean.specs.Ownership.{either, extended};
 
 use sp_base::Memory;
@@ -28,6 +28,15 @@ pub fn mark(number: Option<usize>, marks: &mut Vec<bool>)
 {
     if let Some(number) = number {
         set_mark(marks, number, true);
+    }
+}
+
+/// Unmarks a variable that is assigned.
+pub fn unmark(number: Option<usize>, marks: &mut Vec<bool>)
+    ensures { marks.new.items ≡ unmarked number marks.old.items }
+{
+    if let Some(number) = number {
+        set_mark(marks, number, false);
     }
 }
 
@@ -90,4 +99,11 @@ pub fn newly_gone(before: &[bool], after: &[bool]) -> bool
         .iter()
         .zip(after.iter())
         .any(|(first, second)| !*first && *second)
+}
+
+/// The same for two blocks.
+pub fn either_newly_gone(before: &[bool], first: &[bool], second: &[bool]) -> bool
+    ensures { result ≡ (newly_gone before.now first.now || newly_gone before.now second.now) }
+{
+    newly_gone(before, first) || newly_gone(before, second)
 }

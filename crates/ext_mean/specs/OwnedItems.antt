@@ -22,9 +22,9 @@ marked None marks = marks
 marked (Some number) marks = slice_set marks number true
 
 -- a variable that is assigned is marked no more
-abbrev pub unmarked : Option Variable → List Bool → List Bool
+abbrev pub unmarked : Option ℕ → List Bool → List Bool
 unmarked None marks = marks
-unmarked (Some variable) marks = slice_set marks variable.number false
+unmarked (Some number) marks = slice_set marks number false
 
 -- whether a marked buffer is moved
 abbrev pub moves_marked : List Bool → Option ℕ → Bool

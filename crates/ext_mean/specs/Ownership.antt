@@ -84,7 +84,7 @@ form_passes loans scene gone (Statement-F.LetCall name kind function args) =
     alone (calls loans scene gone args) (moved_all scene.scope gone args ++ false ∷ [])
 form_passes loans scene gone (Statement-F.Assign name value) =
     alone (assigns loans scene gone name value)
-        (unmarked (variable_named name scene.scope) (marked (moved_by scene.scope value) gone))
+        (unmarked (number_of (variable_named name scene.scope)) (marked (moved_by scene.scope value) gone))
 form_passes loans scene gone (Statement-F.If test true_block false_block) =
     let first = true_block scene gone in
     one_of (looks scene gone (test ∷ [])) first (false_block scene (extended gone first.gone))
