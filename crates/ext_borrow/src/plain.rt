@@ -1,5 +1,7 @@
-ghost use Rattle.std.specs.Prelude.{◌≡◌, ◌∷◌, [], OnOk, length};
-ghost use Rattle.ext_mean.specs.Ownership.{Owned, declares_more, form_passes};
+ghost use Rattle.std.specs.Prelude.{◌≡◌, ◌-◌, ◌||◌, ◌∷◌, [], OnOk, length, take};
+ghost use Rattle.ext_mean.specs.Ownership.{Owned, declares_more, extended, form_passes, with_held};
+ghost use Rattle.ext_mean.specs.OwnedItems.{looks, loops, newly_gone};
+ghost use Rattle.ext_borrow.specs.Progress.{after, joined};
 ghost use Rattle.ext_mean.specs.declared.statement.Statement.TheOpen.{Statement-F};
 ghost use Rattle.ext_borrow.specs.Scenes.{seen};
 ghost use Rattle.ext_borrow.specs.Walks.{Passes};
@@ -7,8 +9,11 @@ ghost use Rattle.ext_borrow.specs.Walks.{Passes};
 use crate::arguments::moved_all;
 use crate::frozen::{copies_itself, outlived};
 use crate::giving::declare;
-use crate::items::{assigning, calling, changing, moving, putting};
-use crate::marks::{mark, unmark};
+use crate::items::{
+    assigning, calling, changing, look_at, look_at_two, loop_on, loop_over, moving, putting,
+};
+use crate::marks::{either_newly_gone, mark, newly_gone, unmark};
+use crate::progress::Progress;
 use crate::origins::{moved_by, number_of, origin_of};
 use crate::state::Walk;
 use crate::table::Row;
@@ -151,4 +156,88 @@ pub fn pass_copy(
         itself,
     );
     walk.progress.note(code)
+}
+
+/// Passes an item that looks at one expression.
+pub fn look_once(walk: &mut Walk, only: &Expr) -> Result<(), Memory>
+    ensures progress { OnOk result (walk.new.progress
+        ≡ after walk.old.progress (looks (seen walk.old.scene) walk.old.gone.items (only.now ∷ []) ∷ [])) }
+    ensures gone { walk.new.gone ≡ walk.old.gone }
+    ensures scene { walk.new.scene ≡ walk.old.scene }
+{
+    let code = look_at(&walk.scene, walk.gone.as_slice(), only);
+    walk.progress.note(code)
+}
+
+/// Passes an item that looks at two expressions.
+pub fn look_twice(walk: &mut Walk, first: &Expr, second: &Expr) -> Result<(), Memory>
+    ensures progress { OnOk result (walk.new.progress ≡ after walk.old.progress
+        (looks (seen walk.old.scene) walk.old.gone.items (first.now ∷ second.now ∷ []) ∷ [])) }
+    ensures gone { walk.new.gone ≡ walk.old.gone }
+    ensures scene { walk.new.scene ≡ walk.old.scene }
+{
+    let code = look_at_two(&walk.scene, walk.gone.as_slice(), first, second);
+    walk.progress.note(code)
+}
+
+/// Leaves a `while`.
+pub fn leave_while(
+    alloc: Global,
+    walk: &mut Walk,
+    place: Progress,
+    before: &[bool],
+    test: &Expr,
+) -> Result<(), Memory>
+    ensures progress { OnOk result (walk.new.progress ≡ joined (after place
+        (loops (seen walk.old.scene) before.now (test.now ∷ [])
+            (newly_gone before.now walk.old.gone.items) ∷ [])) walk.old.progress) }
+    ensures gone { OnOk result (walk.new.gone.items ≡ extended before.now walk.old.gone.items) }
+    ensures scene { walk.new.scene ≡ walk.old.scene }
+{
+    let leaves = newly_gone(before, walk.gone.as_slice());
+    let code = loop_on(&walk.scene, before, test, leaves);
+    walk.leave_loop(alloc, place, before, code)
+}
+
+/// Enters the arms of a `multiget`: its keys are held.
+pub fn hold(walk: &mut Walk, keys: &Expr) -> Result<(), Memory>
+    ensures scene { OnOk result (seen walk.new.scene ≡ with_held (seen walk.old.scene) keys.now) }
+    ensures gone { walk.new.gone ≡ walk.old.gone }
+    ensures progress { walk.new.progress ≡ walk.old.progress }
+{
+    let origin = origin_of(walk.scene.scope.as_slice(), keys);
+    walk.scene.held.push(origin)?;
+    Ok(())
+}
+
+/// Leaves a `multiget`, whose `some` blocks leave these buffers gone.
+pub fn leave_multiget(
+    alloc: Global,
+    walk: &mut Walk,
+    place: Progress,
+    before: &[bool],
+    first: &[bool],
+    operands: (&Expr, &Expr, &Expr),
+) -> Result<(), Memory>
+    ensures progress { OnOk result (walk.new.progress ≡ joined (after place
+        (loops (seen walk.new.scene) before.now
+            (operands.entry.0.now ∷ operands.entry.1.now ∷ operands.entry.2.now ∷ [])
+            (newly_gone before.now first.now || newly_gone before.now walk.old.gone.items) ∷ []))
+        walk.old.progress) }
+    ensures gone { OnOk result (walk.new.gone.items ≡ extended before.now walk.old.gone.items) }
+    ensures scene { walk.new.scene.scope ≡ walk.old.scene.scope }
+    ensures held { OnOk result (walk.new.scene.held.items
+        ≡ take (length walk.old.scene.held.items - 1) walk.old.scene.held.items) }
+{
+    let _keys = walk.scene.held.pop();
+    let leaves = either_newly_gone(before, first, walk.gone.as_slice());
+    let code = loop_over(
+        &walk.scene,
+        before,
+        operands.0,
+        operands.1,
+        operands.2,
+        leaves,
+    );
+    walk.leave_loop(alloc, place, before, code)
 }

@@ -19,13 +19,6 @@ pub struct Walk {
     pub progress: Progress,
 }
 
-/// What stood in front of a loop.
-#[derive(Drop)]
-pub struct Outer {
-    pub gone: Vec<bool>,
-    pub progress: Progress,
-}
-
 impl Walk {
     /// Goes on behind an item.
     pub fn note(&mut self, code: Option<BorrowCode>) -> Result<(), Memory>
@@ -77,32 +70,36 @@ impl Walk {
         Ok(())
     }
 
-    /// Enters a loop, whose own item is judged behind its blocks.
-    pub fn enter(&mut self, alloc: Global) -> Result<Outer, Memory>
-        ensures outer { IfOk result (λ outer. outer.gone.items ≡ self.old.gone.items) }
-        ensures place { IfOk result (λ outer. outer.progress ≡ self.old.progress) }
+    /// Enters a loop, whose own item is judged behind its blocks. Its place is handed out.
+    pub fn enter(&mut self) -> Result<Progress, Memory>
+        ensures place { IfOk result (λ place. place ≡ self.old.progress) }
         ensures progress { OnOk result (self.new.progress ≡ behind self.old.progress) }
         ensures gone { self.new.gone ≡ self.old.gone }
         ensures scene { self.new.scene ≡ self.old.scene }
     {
-        let gone = Vec::from_slice(alloc, self.gone.as_slice())?;
-        let progress = self.progress;
-        self.progress = progress.behind()?;
-        Ok(Outer { gone, progress })
+        let place = self.progress;
+        self.progress = place.behind()?;
+        Ok(place)
     }
 
     /// Leaves a loop, whose own item has this code: behind it is gone what was gone before it.
-    pub fn leave_loop(&mut self, alloc: Global, outer: Outer, code: Option<BorrowCode>) -> Result<(), Memory>
+    pub fn leave_loop(
+        &mut self,
+        alloc: Global,
+        place: Progress,
+        before: &[bool],
+        code: Option<BorrowCode>,
+    ) -> Result<(), Memory>
         ensures progress { OnOk result (self.new.progress
-            ≡ joined (after outer.progress (code ∷ [])) self.old.progress) }
-        ensures gone { OnOk result (self.new.gone.items ≡ extended outer.gone.items self.old.gone.items) }
+            ≡ joined (after place (code ∷ [])) self.old.progress) }
+        ensures gone { OnOk result (self.new.gone.items ≡ extended before.now self.old.gone.items) }
         ensures scene { self.new.scene ≡ self.old.scene }
     {
-        let mut progress = outer.progress;
+        let mut progress = place;
         progress.note(code)?;
         progress.join(self.progress);
         self.progress = progress;
-        self.gone = extended(alloc, outer.gone.as_slice(), self.gone.len())?;
+        self.gone = extended(alloc, before, self.gone.len())?;
         Ok(())
     }
 }

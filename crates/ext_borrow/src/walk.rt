@@ -5,10 +5,10 @@ ghost use Rattle.ext_borrow.specs.Scenes.{seen};
 ghost use Rattle.ext_borrow.specs.Walks.{Passes};
 
 use crate::giving::declare;
-use crate::items::{look_at, look_at_two, loop_on, loop_over};
-use crate::marks::{either_newly_gone, newly_gone};
-use crate::origins::origin_of;
-use crate::plain::{pass_assign, pass_call, pass_copy, pass_let, pass_put, pass_return, pass_set};
+use crate::plain::{
+    hold, leave_multiget, leave_while, look_once, look_twice, pass_assign, pass_call, pass_copy,
+    pass_let, pass_put, pass_return, pass_set,
+};
 use crate::state::Walk;
 use crate::table::Row;
 use ext_mean::{Block, Kind, Name, Statement};
@@ -90,18 +90,17 @@ fn pass_statement(
         Statement::Assign { name, value } => pass_assign(loans, walk, name, value),
         Statement::If { test, yes, no } => {
             let before = walk.marks(alloc)?;
-            walk.note(look_at(&walk.scene, before.as_slice(), test))?;
+            look_once(walk, test)?;
             pass_block(alloc, loans, walk, yes)?;
             let first = walk.turn(alloc, before.as_slice())?;
             pass_block(alloc, loans, walk, no)?;
             walk.unite(alloc, first.as_slice())
         }
         Statement::While { test, body } => {
-            let outer = walk.enter(alloc)?;
+            let before = walk.marks(alloc)?;
+            let place = walk.enter()?;
             pass_block(alloc, loans, walk, body)?;
-            let leaves = newly_gone(outer.gone.as_slice(), walk.gone.as_slice());
-            let code = loop_on(&walk.scene, outer.gone.as_slice(), test, leaves);
-            walk.leave_loop(alloc, outer, code)
+            leave_while(alloc, walk, place, before.as_slice(), test)
         }
         Statement::Get {
             table,
@@ -111,7 +110,7 @@ fn pass_statement(
             no,
         } => {
             let before = walk.marks(alloc)?;
-            walk.note(look_at_two(&walk.scene, before.as_slice(), table, key))?;
+            look_twice(walk, table, key)?;
             pass_arm(alloc, loans, walk, some, yes)?;
             let first = walk.turn(alloc, before.as_slice())?;
             pass_block(alloc, loans, walk, no)?;
@@ -125,21 +124,21 @@ fn pass_statement(
             yes,
             no,
         } => {
-            let outer = walk.enter(alloc)?;
-            let held = walk.scene.held.len();
-            let origin = origin_of(walk.scene.scope.as_slice(), keys);
-            walk.scene.held.push(origin)?;
+            let before = walk.marks(alloc)?;
+            let place = walk.enter()?;
+            hold(walk, keys)?;
             pass_arm(alloc, loans, walk, some, yes)?;
-            let first = walk.turn(alloc, outer.gone.as_slice())?;
+            let first = walk.turn(alloc, before.as_slice())?;
             pass_block(alloc, loans, walk, no)?;
-            walk.scene.held.truncate(held);
-            let leaves = either_newly_gone(
-                outer.gone.as_slice(),
+            let operands = (table, keys, width);
+            leave_multiget(
+                alloc,
+                walk,
+                place,
+                before.as_slice(),
                 first.as_slice(),
-                walk.gone.as_slice(),
-            );
-            let code = loop_over(&walk.scene, outer.gone.as_slice(), table, keys, width, leaves);
-            walk.leave_loop(alloc, outer, code)
+                operands,
+            )
         }
         Statement::Set { name, place, value } | Statement::Set8 { name, place, value } => {
             pass_set(loans, walk, name, (place, value))
@@ -150,14 +149,8 @@ fn pass_statement(
             source,
         } => pass_copy(loans, walk, name, (place, source)),
         Statement::Put { name } => pass_put(loans, walk, name),
-        Statement::Del { table, key } => {
-            let code = look_at_two(&walk.scene, walk.gone.as_slice(), table, key);
-            walk.note(code)
-        }
-        Statement::Resp { value } => {
-            let code = look_at(&walk.scene, walk.gone.as_slice(), value);
-            walk.note(code)
-        }
+        Statement::Del { table, key } => look_twice(walk, table, key),
+        Statement::Resp { value } => look_once(walk, value),
         Statement::Return { value } => pass_return(loans, walk, value),
     }
 }
