@@ -1,7 +1,6 @@
 ghost use Rattle.std.specs.Prelude.{◌≡◌, ◌+◌, IfOk, IfErr, OnOk, false, length, replicate};
 ghost use Rattle.ext_mean.specs.Borrowing.{loans_of, numbered};
 ghost use Rattle.ext_mean.specs.Ownership.{IsOwned, borrow_fault, owned_function, owned_functions};
-ghost use Rattle.ext_mean.specs.Typing.{IsTyped};
 ghost use Rattle.ext_borrow.specs.Progress.{after, start};
 ghost use Rattle.ext_borrow.specs.Refusals.{Explains};
 
@@ -82,11 +81,11 @@ fn check_functions(alloc: Global, functions: &[Function]) -> Result<Progress, Me
     Ok(progress)
 }
 
-/// Whether a typed program keeps the rules of ownership: no item uses a buffer that is gone, changes
-/// one of which a slice may still be read, lets a slice outlive its buffer, or moves and borrows.
+/// Whether a program keeps the rules of ownership: no item uses a buffer that is gone, changes one of
+/// which a slice may still be read, lets a slice outlive its buffer, or moves and borrows. It is asked
+/// of typed programs.
 #[tactic(auto, unfolding(ext_mean::specs::Ownership::borrow_fault))]
 pub fn check_borrows(alloc: Global, program: &Program) -> Result<(), BorrowRefusal>
-    requires { IsTyped program.now }
     ensures ok { OnOk result (IsOwned program.now) }
     ensures fault { IfErr result (λ refusal. Explains refusal (borrow_fault program.now)) }
 {

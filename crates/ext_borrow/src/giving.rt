@@ -81,7 +81,7 @@ fn gather_arm(
 ) -> Result<(), Memory>
     ensures gifts { OnOk result (gathered.new.gifts.items ≡ gathered.old.gifts.items
         ++ (block_giving found.now).gifts (scope.old.items ++ numbered gathered.old.count (arm_name some.now))
-            (gathered.old.count + 1)) }
+        (gathered.old.count + 1)) }
     ensures count { OnOk result
         (gathered.new.count ≡ gathered.old.count + 1 + (block_giving found.now).count) }
     ensures scope { OnOk result (scope.new.items ≡ scope.old.items) }

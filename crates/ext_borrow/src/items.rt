@@ -84,7 +84,10 @@ pub fn loop_over(
         ≡ loops (seen scene.now) gone.now (table.now ∷ keys.now ∷ width.now ∷ []) leaves_gone }
 {
     let scope = scene.scope.as_slice();
-    let views = one_or(views(scope, gone, table), views_two(scope, gone, keys, width));
+    let views = one_or(
+        views(scope, gone, table),
+        views_two(scope, gone, keys, width),
+    );
     first_code(one_or(views, leaves_gone), false, false, false)
 }
 

@@ -19,3 +19,6 @@ mod walk;
 
 pub use check::check_borrows;
 pub use refusal::BorrowRefusal;
+
+#[cfg(test)]
+mod tests;

@@ -13,8 +13,8 @@ use crate::items::{
     assigning, calling, changing, look_at, look_at_two, loop_on, loop_over, moving, putting,
 };
 use crate::marks::{either_newly_gone, mark, newly_gone, unmark};
-use crate::progress::Progress;
 use crate::origins::{moved_by, number_of, origin_of};
+use crate::progress::Progress;
 use crate::state::Walk;
 use crate::table::Row;
 use ext_mean::{Expr, Kind, Name};
@@ -190,7 +190,7 @@ pub fn leave_while(
 ) -> Result<(), Memory>
     ensures progress { OnOk result (walk.new.progress ≡ joined (after place
         (loops (seen walk.old.scene) before.now (test.now ∷ [])
-            (newly_gone before.now walk.old.gone.items) ∷ [])) walk.old.progress) }
+        (newly_gone before.now walk.old.gone.items) ∷ [])) walk.old.progress) }
     ensures gone { OnOk result (walk.new.gone.items ≡ extended before.now walk.old.gone.items) }
     ensures scene { walk.new.scene ≡ walk.old.scene }
 {
@@ -221,8 +221,8 @@ pub fn leave_multiget(
 ) -> Result<(), Memory>
     ensures progress { OnOk result (walk.new.progress ≡ joined (after place
         (loops (seen walk.new.scene) before.now
-            (operands.entry.0.now ∷ operands.entry.1.now ∷ operands.entry.2.now ∷ [])
-            (newly_gone before.now first.now || newly_gone before.now walk.old.gone.items) ∷ []))
+        (operands.entry.0.now ∷ operands.entry.1.now ∷ operands.entry.2.now ∷ [])
+        (newly_gone before.now first.now || newly_gone before.now walk.old.gone.items) ∷ []))
         walk.old.progress) }
     ensures gone { OnOk result (walk.new.gone.items ≡ extended before.now walk.old.gone.items) }
     ensures scene { walk.new.scene.scope ≡ walk.old.scene.scope }

@@ -59,12 +59,12 @@ fn pass_arm(
         (walk.old.gone.items ++ false ∷ []))) }
     ensures scene { OnOk result (seen walk.new.scene ≡ seen walk.old.scene) }
 {
-    let outer = walk.scene.scope.len();
+    let outside = walk.scene.scope.len();
     let number = walk.gone.len();
     declare(alloc, &mut walk.scene.scope, some, Kind::Slice, number)?;
     walk.gone.push(false)?;
     pass_block(alloc, loans, walk, found)?;
-    walk.scene.scope.truncate(outer);
+    walk.scene.scope.truncate(outside);
     Ok(())
 }
 
@@ -85,7 +85,10 @@ fn pass_statement(
     match statement {
         Statement::Let { name, kind, value } => pass_let(alloc, loans, walk, (name, *kind), value),
         Statement::LetCall {
-            name, kind, args, ..
+            name,
+            kind,
+            args,
+            ..
         } => pass_call(alloc, loans, walk, (name, *kind), args.as_slice()),
         Statement::Assign { name, value } => pass_assign(loans, walk, name, value),
         Statement::If { test, yes, no } => {

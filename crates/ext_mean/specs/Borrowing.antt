@@ -68,7 +68,7 @@ abbrev pub giving_step : Statement-F Giving BlockGiving → Giving
 giving_step form = record {
   gifts = λ scope number. form_gifts scope number form;
   count = form_count form;
-  declares = declared_by form
+  declares = declared_by form;
 }
 
 -- one statement after another

@@ -143,14 +143,14 @@ looks scene gone expressions = first_code (any_views scene.scope gone expression
 abbrev pub moves : List (List Bool) → Scene → List Bool → Expr → Bool → Option BorrowCode
 moves loans scene gone value outlived =
     first_code (uses_gone scene.scope gone value)
-        (is_frozen loans scene (moved_by scene.scope value)) outlived false
+    (is_frozen loans scene (moved_by scene.scope value)) outlived false
 
 -- an item that changes a buffer
 abbrev pub changes : List (List Bool) → Scene → List Bool → List ℕ → List Expr → Bool → Option BorrowCode
 changes loans scene gone name expressions frozen =
     let buffer = variable_named name scene.scope in
     first_code (any_marked gone buffer || any_views scene.scope gone expressions)
-        (is_frozen loans scene (number_of buffer) || frozen) false false
+    (is_frozen loans scene (number_of buffer) || frozen) false false
 
 -- an item that calls a function
 abbrev pub calls : List (List Bool) → Scene → List Bool → List Expr → Option BorrowCode
@@ -158,16 +158,16 @@ calls loans scene gone args =
     let scope = scene.scope in
     let none = unmarked_all gone in
     first_code (any_gone scope gone args || moves_twice scope none args)
-        (any_frozen loans scene args) false
-        (borrows_moved loans scope (moved_all scope none args) args || views_moved scope none args)
+    (any_frozen loans scene args) false
+    (borrows_moved loans scope (moved_all scope none args) args || views_moved scope none args)
 
 -- an assignment: it moves its value, and may not assign what is frozen
 abbrev pub assigns : List (List Bool) → Scene → List Bool → List ℕ → Expr → Option BorrowCode
 assigns loans scene gone name value =
     let number = number_of (variable_named name scene.scope) in
     first_code (uses_gone scene.scope gone value)
-        (is_frozen loans scene (moved_by scene.scope value) || is_frozen loans scene number)
-        (outlived loans number (origin_of scene.scope value)) false
+    (is_frozen loans scene (moved_by scene.scope value) || is_frozen loans scene number)
+    (outlived loans number (origin_of scene.scope value)) false
 
 -- a loop: besides what it looks at, it may not leave a buffer gone for its next turn
 abbrev pub loops : Scene → List Bool → List Expr → Bool → Option BorrowCode

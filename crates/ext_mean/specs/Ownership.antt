@@ -58,33 +58,33 @@ alone code gone = record { codes = code ∷ []; gone = gone }
 abbrev pub one_of : Option BorrowCode → Passed → Passed → Passed
 one_of code first second = record {
   codes = code ∷ (first.codes ++ second.codes);
-  gone = either first.gone second.gone
+  gone = either first.gone second.gone;
 }
 
 -- an item and its blocks, which may run again: what is gone behind it is what was gone before
 abbrev pub again : (Bool → Option BorrowCode) → List Bool → Passed → Passed
 again own gone body = record {
   codes = own (newly_gone gone body.gone) ∷ body.codes;
-  gone = extended gone body.gone
+  gone = extended gone body.gone;
 }
 
 abbrev pub again_both : (Bool → Option BorrowCode) → List Bool → Passed → Passed → Passed
 again_both own gone first second = record {
   codes = own (newly_gone gone first.gone || newly_gone gone second.gone) ∷ (first.codes ++ second.codes);
-  gone = extended gone second.gone
+  gone = extended gone second.gone;
 }
 
 -- a statement in a scene
 abbrev pub form_passes : {A : Type 0} → List (List Bool) → Scene → List Bool → Statement-F A Course → Passed
 form_passes loans scene gone (Statement-F.Let name kind value) =
     alone (moves loans scene gone value
-            (outlived loans (Some (length gone)) (origin_of scene.scope value)))
-        (marked (moved_by scene.scope value) gone ++ false ∷ [])
+    (outlived loans (Some (length gone)) (origin_of scene.scope value)))
+    (marked (moved_by scene.scope value) gone ++ false ∷ [])
 form_passes loans scene gone (Statement-F.LetCall name kind function args) =
     alone (calls loans scene gone args) (moved_all scene.scope gone args ++ false ∷ [])
 form_passes loans scene gone (Statement-F.Assign name value) =
     alone (assigns loans scene gone name value)
-        (unmarked (number_of (variable_named name scene.scope)) (marked (moved_by scene.scope value) gone))
+    (unmarked (number_of (variable_named name scene.scope)) (marked (moved_by scene.scope value) gone))
 form_passes loans scene gone (Statement-F.If test true_block false_block) =
     let first = true_block scene gone in
     one_of (looks scene gone (test ∷ [])) first (false_block scene (extended gone first.gone))
@@ -97,19 +97,19 @@ form_passes loans scene gone (Statement-F.Multi table keys width some found_bloc
     let arms = with_held scene keys in
     let first = found_block (with_arm arms (length gone) some) (gone ++ false ∷ []) in
     again_both (loops scene gone (table ∷ keys ∷ width ∷ [])) gone first
-        (none_block arms (extended gone first.gone))
+    (none_block arms (extended gone first.gone))
 form_passes loans scene gone (Statement-F.Set name place value) =
     alone (changes loans scene gone name (place ∷ value ∷ []) false) gone
 form_passes loans scene gone (Statement-F.Set8 name place value) =
     alone (changes loans scene gone name (place ∷ value ∷ []) false) gone
 form_passes loans scene gone (Statement-F.Copy name place source) =
     alone (changes loans scene gone name (place ∷ source ∷ [])
-            (copies_itself loans (number_of (variable_named name scene.scope))
-                (origin_of scene.scope source)))
-        gone
+    (copies_itself loans (number_of (variable_named name scene.scope))
+    (origin_of scene.scope source)))
+    gone
 form_passes loans scene gone (Statement-F.Put name) =
     alone (changes loans scene gone name [] false)
-        (marked (number_of (variable_named name scene.scope)) gone)
+    (marked (number_of (variable_named name scene.scope)) gone)
 form_passes loans scene gone (Statement-F.Del table key) =
     alone (looks scene gone (table ∷ key ∷ [])) gone
 form_passes loans scene gone (Statement-F.Resp value) = alone (looks scene gone (value ∷ [])) gone
@@ -120,7 +120,7 @@ abbrev pub owned_step : List (List Bool) → Statement-F Owned Course → Owned
 owned_step loans form = record {
   passes = λ scene gone. form_passes loans scene gone form;
   declares = declared_by form;
-  returns = is_return_form form
+  returns = is_return_form form;
 }
 
 -- one statement after another
@@ -135,7 +135,7 @@ pass_in_order [] scene gone = record { codes = []; gone = gone }
 pass_in_order (first ∷ rest) scene gone =
     let passed = first.passes scene gone in
     passed_then passed
-        (pass_in_order rest (declares_more scene (length gone) first.declares) passed.gone)
+    (pass_in_order rest (declares_more scene (length gone) first.declares) passed.gone)
 
 -- whether the last statement is a `return`; with none the answer is given
 abbrev pub last_returns : Bool → List Owned → Bool
@@ -165,7 +165,7 @@ scene_of function = record { scope = numbered 0 function.params; held = [] }
 abbrev pub owned_function : Function → List (Option BorrowCode)
 owned_function function =
     None ∷ (owned_block (loans_of function) function.body (scene_of function)
-        (replicate (length function.params) false)).codes
+    (replicate (length function.params) false)).codes
 
 -- the codes of all items
 abbrev pub owned_functions : List Function → List (Option BorrowCode)

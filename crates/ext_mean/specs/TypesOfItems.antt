@@ -69,7 +69,7 @@ statement_code setting scope (Statement-F.Let name kind value) =
     earlier (new_name scope name) (asks kind (type_of scope value))
 statement_code setting scope (Statement-F.LetCall name kind function args) =
     earlier (new_name scope name)
-        (call_code setting scope function kind (function_named function setting.before) args)
+    (call_code setting scope function kind (function_named function setting.before) args)
 statement_code setting scope (Statement-F.Assign name value) =
     assigned_code (kind_of scope name) (type_of scope value)
 statement_code setting scope (Statement-F.If test true_block false_block) =
@@ -77,20 +77,20 @@ statement_code setting scope (Statement-F.If test true_block false_block) =
 statement_code setting scope (Statement-F.While test body) = asks kind.Bool (type_of scope test)
 statement_code setting scope (Statement-F.Get table key some found_block none_block) =
     earlier (new_name scope some)
-        (earlier (asks kind.Int (type_of scope table)) (asks kind.Slice (type_of scope key)))
+    (earlier (asks kind.Int (type_of scope table)) (asks kind.Slice (type_of scope key)))
 statement_code setting scope (Statement-F.Multi table keys width some found_block none_block) =
     earlier (new_name scope some)
-        (earlier (asks kind.Int (type_of scope table))
-            (earlier (asks kind.Slice (type_of scope keys)) (asks kind.Int (type_of scope width))))
+    (earlier (asks kind.Int (type_of scope table))
+    (earlier (asks kind.Slice (type_of scope keys)) (asks kind.Int (type_of scope width))))
 statement_code setting scope (Statement-F.Set name place value) =
     earlier (asks_buffer (kind_of scope name))
-        (earlier (asks kind.Int (type_of scope place)) (asks kind.Int (type_of scope value)))
+    (earlier (asks kind.Int (type_of scope place)) (asks kind.Int (type_of scope value)))
 statement_code setting scope (Statement-F.Set8 name place value) =
     earlier (asks_buffer (kind_of scope name))
-        (earlier (asks kind.Int (type_of scope place)) (asks kind.Int (type_of scope value)))
+    (earlier (asks kind.Int (type_of scope place)) (asks kind.Int (type_of scope value)))
 statement_code setting scope (Statement-F.Copy name place source) =
     earlier (asks_buffer (kind_of scope name))
-        (earlier (asks kind.Int (type_of scope place)) (asks kind.Slice (type_of scope source)))
+    (earlier (asks kind.Int (type_of scope place)) (asks kind.Slice (type_of scope source)))
 statement_code setting scope (Statement-F.Put name) = put_code (kind_of scope name)
 statement_code setting scope (Statement-F.Del table key) =
     earlier (asks kind.Int (type_of scope table)) (asks kind.Slice (type_of scope key))

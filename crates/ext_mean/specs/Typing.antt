@@ -47,7 +47,7 @@ inner_codes scope _ = []
 abbrev pub statement_step : Setting → Statement-F Checked Codes → Checked
 statement_step setting form = record {
   codes = λ scope. statement_code setting scope form ∷ inner_codes scope form;
-  declares = declared_by form
+  declares = declared_by form;
 }
 
 -- a variable is in scope from the end of its declaration to the end of its block
@@ -83,7 +83,7 @@ head_code before last function =
     (earlier (unless (not (repeats function.params)) code.Twice)
     (earlier (unless (not (same_kind kind.Slice function.result)) code.Kind)
     (earlier (unless (ends_with_return function.body) code.NoReturn)
-        (unless (not last || is_main function) code.Main))))
+    (unless (not last || is_main function) code.Main))))
 
 -- the setting of a function behind the first `count` ones
 abbrev pub setting_of : List Function → ℕ → Function → Setting
@@ -95,7 +95,7 @@ abbrev pub function_codes : List Function → ℕ → List Function → List (Op
 function_codes functions count [] = []
 function_codes functions count (function ∷ rest) =
     (head_code (take count functions) (count + 1 == length functions) function
-        ∷ block_codes (setting_of functions count function) function.body function.params)
+    ∷ block_codes (setting_of functions count function) function.body function.params)
     ++ function_codes functions (count + 1) rest
 
 -- the codes of all items of a program

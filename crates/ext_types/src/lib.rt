@@ -15,3 +15,6 @@ mod walk;
 
 pub use check::check_types;
 pub use refusal::TypeRefusal;
+
+#[cfg(test)]
+mod tests;

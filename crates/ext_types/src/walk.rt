@@ -55,10 +55,10 @@ fn check_arm(
         ≡ after progress.old (block_codes (setting place.now) found.now (scope.old.items ++ arm_name some.now))) }
     ensures scope { OnOk result (scope.new.items ≡ scope.old.items) }
 {
-    let outer = scope.len();
+    let outside = scope.len();
     declare(alloc, scope, some, Kind::Slice)?;
     check_block(alloc, place, scope, progress, found)?;
-    scope.truncate(outer);
+    scope.truncate(outside);
     Ok(())
 }
 

@@ -12,5 +12,5 @@ loop-function-preserved c =
     let function = c.function-item.result in
     let d = drop-item functions at function c.loop-function-test.true c.function-item.is in
     let step : after c.in_ok-progress.progress (owned_functions (drop (at + 1) functions)) ≡ after c.loop-function.progress (owned_functions (drop at functions)) =
-        rw (d, c.in_ok-progress.ensures) (sym (after-append c.loop-function.progress (owned_function function) (owned_functions (drop (at + 1) functions)))) in
+    rw (d, c.in_ok-progress.ensures) (sym (after-append c.loop-function.progress (owned_function function) (owned_functions (drop (at + 1) functions)))) in
     step ∙ c.loop-function.invariant

@@ -53,8 +53,9 @@ gather_statement-returns-in_ok-gather_arm-in-Get-clause-gifts t c =
     let scope = c.args.scope.now.items in
     let number = c.args.gathered.now.count in
     let whole : (giving c.args.statement.now).gifts scope number ≡ (block_giving c.in-Get.yes).gifts (scope ++ numbered number (arm_name c.in-Get.some)) (number + 1) ++ (block_giving c.in-Get.no).gifts c.gather_arm.new.scope.items c.gather_arm.new.gathered.count = elim c.in-Get.is [
-          inl w ↦ rw (w.2, mid.scope, mid.count) (gifts-Get scope number w.0 w.1 c.in-Get.some c.in-Get.yes c.in-Get.no)
-        | inr w ↦ rw (w.3, mid.scope, mid.count) (gifts-Multi scope number w.0 w.1 w.2 c.in-Get.some c.in-Get.yes c.in-Get.no) ] in
+      | inl w ↦ rw (w.2, mid.scope, mid.count) (gifts-Get scope number w.0 w.1 c.in-Get.some c.in-Get.yes c.in-Get.no)
+      | inr w ↦ rw (w.3, mid.scope, mid.count) (gifts-Multi scope number w.0 w.1 w.2 c.in-Get.some c.in-Get.yes c.in-Get.no)
+    ] in
     let e = behind-both c.args.gathered.now.gifts.items c.gather_arm.new.gathered.gifts.items _ _ _ mid.gifts whole in
     subst (λ (q : List Gift). OnOk c.gather_block-in-Get.result (c.gather_block-in-Get.new.gathered.gifts.items ≡ q)) e c.gather_block-in-Get.ensures.gifts
 
@@ -62,7 +63,8 @@ pub gather_statement-returns-in_ok-gather_arm-in-Get-clause-count :
     goal.gather_statement-returns-in_ok-gather_arm-in-Get-clause-count
 gather_statement-returns-in_ok-gather_arm-in-Get-clause-count t c =
     let whole : (giving c.args.statement.now).count ≡ 1 + (block_giving c.in-Get.yes).count + (block_giving c.in-Get.no).count = elim c.in-Get.is [
-          inl w ↦ rw w.2 (count-Get w.0 w.1 c.in-Get.some c.in-Get.yes c.in-Get.no)
-        | inr w ↦ rw w.3 (count-Multi w.0 w.1 w.2 c.in-Get.some c.in-Get.yes c.in-Get.no) ] in
+      | inl w ↦ rw w.2 (count-Get w.0 w.1 c.in-Get.some c.in-Get.yes c.in-Get.no)
+      | inr w ↦ rw w.3 (count-Multi w.0 w.1 w.2 c.in-Get.some c.in-Get.yes c.in-Get.no)
+    ] in
     let e : c.gather_arm.new.gathered.count + (block_giving c.in-Get.no).count ≡ c.args.gathered.now.count + (giving c.args.statement.now).count = omega (arith, whole, c.in_ok-gather_arm-in-Get.ensures.count) in
     subst (λ (q : ℕ). OnOk c.gather_block-in-Get.result (c.gather_block-in-Get.new.gathered.count ≡ q)) e c.gather_block-in-Get.ensures.count

@@ -33,7 +33,7 @@ pass_block-loop-statement-preserved t c =
       gone = one-gone loans items at item (seen was.scene) (seen is.scene) was.gone.items is.gone.items below c.statement-item.is passes.gone more ∙ inv.gone;
       returns = rw c.is_return-returns.ensures (rw d at inv.returns);
       held = ap (λ (z : scenes.Scene). z.held) more ∙ inv.held;
-      outer = rw scope (outer-stays c.args.walk.now.scene.scope.items was.scene.scope.items _ inv.outer)
+      outer = rw scope (outer-stays c.args.walk.now.scene.scope.items was.scene.scope.items _ inv.outer);
     }
 
 pub pass_block-returns-clause-passes : goal.pass_block-returns-clause-passes
@@ -50,7 +50,7 @@ pass_block-returns-clause-passes t c =
     let before = c.as_slice.ensures.value ∙ c.in_ok-before.ensures in
     on-ok c.leave.result _ _ (λ g. record {
       codes = c.leave.ensures.progress ∙ codes;
-      gone = g ∙ ap (λ (z : List Bool). leaves c.loop-statement.returns z is.gone.items) before ∙ gone
+      gone = g ∙ ap (λ (z : List Bool). leaves c.loop-statement.returns z is.gone.items) before ∙ gone;
     }) c.leave.ensures.gone
 
 pub pass_statement-returns-in_ok-pass_block-in-If-2-clause-passes : goal.pass_statement-returns-in_ok-pass_block-in-If-2-clause-passes
@@ -75,7 +75,7 @@ pass_statement-returns-in_ok-pass_block-in-If-2-clause-passes t c =
     let left = branches-gone own first whole other scene (seen c.turn.new.self.scene) gone c.in_ok-first-in-If.first.items c.turn.new.self.gone.items c.pass_block-in-If.new.walk.gone.items was.progress c.look_once.new.walk.progress c.pass_block.new.walk.progress c.pass_block-in-If.new.walk.progress whole-is c.in_ok-look_once-in-If.ensures.progress p2-is gone1-is scene2-is gone2-is p3-is c.in_ok-pass_block-in-If-2.ensures.passes.gone in
     on-ok c.unite.result _ _ (λ g. record {
       codes = c.unite.ensures.progress ∙ codes;
-      gone = g ∙ ap (λ (z : List Bool). either z c.pass_block-in-If.new.walk.gone.items) c.as_slice-in-If-2.ensures.value ∙ left
+      gone = g ∙ ap (λ (z : List Bool). either z c.pass_block-in-If.new.walk.gone.items) c.as_slice-in-If-2.ensures.value ∙ left;
     }) c.unite.ensures.gone
 
 pub pass_statement-returns-in_ok-pass_block-in-While-clause-passes : goal.pass_statement-returns-in_ok-pass_block-in-While-clause-passes
@@ -103,11 +103,11 @@ pass_statement-returns-in_ok-pass_block-in-While-clause-passes t c =
     let codes = turns-codes own body whole gone gone1 was.progress q1 whole-is q1-is gone1-is in
     let left = turns-gone own body whole gone gone1 was.progress q1 whole-is q1-is gone1-is in
     let same = ap (λ (z : scenes.Scene). joined (after place (loops z front (test ∷ []) (newly_gone front gone1) ∷ [])) q1) scene-is
-        ∙ ap (λ (z : List Bool). joined (after place (loops scene z (test ∷ []) (newly_gone z gone1) ∷ [])) q1) before
-        ∙ ap (λ (z : Progress). joined (after z (own (newly_gone gone gone1) ∷ [])) q1) entered.place in
+    ∙ ap (λ (z : List Bool). joined (after place (loops scene z (test ∷ []) (newly_gone z gone1) ∷ [])) q1) before
+    ∙ ap (λ (z : Progress). joined (after z (own (newly_gone gone gone1) ∷ [])) q1) entered.place in
     on-ok-both c.leave_while.result _ _ _ (λ p g. record {
       codes = p ∙ same ∙ codes;
-      gone = g ∙ ap (λ (z : List Bool). extended z gone1) before ∙ left
+      gone = g ∙ ap (λ (z : List Bool). extended z gone1) before ∙ left;
     }) c.leave_while.ensures.progress c.leave_while.ensures.gone
 
 pub pass_statement-returns-in_ok-pass_block-in-Get-clause-passes : goal.pass_statement-returns-in_ok-pass_block-in-Get-clause-passes
@@ -142,7 +142,7 @@ pass_statement-returns-in_ok-pass_block-in-Get-clause-passes t c =
     let left = branches-gone own first whole other scene scene2 gone gone1 gone2 gone3 was.progress p1 p2 p3 whole-is c.in_ok-look_twice-in-Get.ensures.progress p2-is gone1-is scene2-is gone2-is p3-is second.passes.gone in
     on-ok c.unite-in-Get.result _ _ (λ g. record {
       codes = c.unite-in-Get.ensures.progress ∙ codes;
-      gone = g ∙ ap (λ (z : List Bool). either z gone3) c.as_slice-in-Get-2.ensures.value ∙ left
+      gone = g ∙ ap (λ (z : List Bool). either z gone3) c.as_slice-in-Get-2.ensures.value ∙ left;
     }) c.unite-in-Get.ensures.gone
 
 pub pass_statement-returns-in_ok-pass_block-in-Multi-clause-passes : goal.pass_statement-returns-in_ok-pass_block-in-Multi-clause-passes
@@ -172,8 +172,8 @@ pass_statement-returns-in_ok-pass_block-in-Multi-clause-passes t c =
     let arms-is : seen c.hold.new.walk.scene ≡ arms = c.in_ok-hold-in-Multi.ensures.scene ∙ ap (λ (z : scenes.Scene). with_held z c.in-Multi.keys) (ap seen c.enter-in-Multi.ensures.scene) in
     let hold-gone : c.hold.new.walk.gone.items ≡ gone = ap (λ (z : Vec Bool Global). z.items) (c.hold.ensures.gone ∙ c.enter-in-Multi.ensures.gone) in
     let first-is : owned_block loans c.in-Multi.yes (with_arm (seen c.hold.new.walk.scene) (length c.hold.new.walk.gone.items) c.in-Multi.some) (c.hold.new.walk.gone.items ++ false ∷ []) ≡ first =
-        ap (λ (z : scenes.Scene). owned_block loans c.in-Multi.yes (with_arm z (length c.hold.new.walk.gone.items) c.in-Multi.some) (c.hold.new.walk.gone.items ++ false ∷ [])) arms-is
-        ∙ ap (λ (z : List Bool). owned_block loans c.in-Multi.yes (with_arm arms (length z) c.in-Multi.some) (z ++ false ∷ [])) hold-gone in
+    ap (λ (z : scenes.Scene). owned_block loans c.in-Multi.yes (with_arm z (length c.hold.new.walk.gone.items) c.in-Multi.some) (c.hold.new.walk.gone.items ++ false ∷ [])) arms-is
+    ∙ ap (λ (z : List Bool). owned_block loans c.in-Multi.yes (with_arm arms (length z) c.in-Multi.some) (z ++ false ∷ [])) hold-gone in
     let hold-progress : c.hold.new.walk.progress ≡ behind was.progress = c.hold.ensures.progress ∙ entered.progress in
     let q1-is : q1 ≡ after (behind was.progress) first.codes = passed.passes.codes ∙ ap (λ (z : Passed). after c.hold.new.walk.progress z.codes) first-is ∙ ap (λ (z : Progress). after z first.codes) hold-progress in
     let gone1-is : gone1 ≡ first.gone = turned.first ∙ passed.passes.gone ∙ ap (λ (z : Passed). z.gone) first-is in
@@ -191,17 +191,17 @@ pass_statement-returns-in_ok-pass_block-in-Multi-clause-passes t c =
     let since : front3 ≡ gone1 = c.as_slice-in-Multi-3.ensures.value in
     let after-it = c.leave_multiget.new.walk in
     on-ok-three c.leave_multiget.result _ _ _ _ (λ p g h.
-      let held : after-it.scene.held.items ≡ scene.held = unheld scene.held c.pass_block-in-Multi.new.walk.scene.held.items after-it.scene.held.items _ (ap (λ (z : scenes.Scene). z.held) inside) h in
-      let scope : after-it.scene.scope.items ≡ scene.scope = ap (λ (z : Vec Variable Global). z.items) c.leave_multiget.ensures.scene ∙ ap (λ (z : scenes.Scene). z.scope) inside in
-      let scene-is = scene-parts (seen after-it.scene) scene scope held in
-      let same = ap (λ (z : scenes.Scene). joined (after place (loops z front2 operands (newly_gone front2 front3 || newly_gone front2 gone3) ∷ [])) q2) scene-is
-          ∙ ap (λ (z : List Bool). joined (after place (loops scene z operands (newly_gone z front3 || newly_gone z gone3) ∷ [])) q2) before2
-          ∙ ap (λ (z : List Bool). joined (after place (own (newly_gone gone z || newly_gone gone gone3) ∷ [])) q2) since
-          ∙ ap (λ (z : Progress). joined (after z (own (newly_gone gone gone1 || newly_gone gone gone3) ∷ [])) q2) entered.place in
-      record {
-        codes = p ∙ same ∙ codes;
-        gone = g ∙ ap (λ (z : List Bool). extended z gone3) before2 ∙ left
-      }) c.leave_multiget.ensures.progress c.leave_multiget.ensures.gone c.leave_multiget.ensures.held
+    let held : after-it.scene.held.items ≡ scene.held = unheld scene.held c.pass_block-in-Multi.new.walk.scene.held.items after-it.scene.held.items _ (ap (λ (z : scenes.Scene). z.held) inside) h in
+    let scope : after-it.scene.scope.items ≡ scene.scope = ap (λ (z : Vec Variable Global). z.items) c.leave_multiget.ensures.scene ∙ ap (λ (z : scenes.Scene). z.scope) inside in
+    let scene-is = scene-parts (seen after-it.scene) scene scope held in
+    let same = ap (λ (z : scenes.Scene). joined (after place (loops z front2 operands (newly_gone front2 front3 || newly_gone front2 gone3) ∷ [])) q2) scene-is
+    ∙ ap (λ (z : List Bool). joined (after place (loops scene z operands (newly_gone z front3 || newly_gone z gone3) ∷ [])) q2) before2
+    ∙ ap (λ (z : List Bool). joined (after place (own (newly_gone gone z || newly_gone gone gone3) ∷ [])) q2) since
+    ∙ ap (λ (z : Progress). joined (after z (own (newly_gone gone gone1 || newly_gone gone gone3) ∷ [])) q2) entered.place in
+    record {
+      codes = p ∙ same ∙ codes;
+      gone = g ∙ ap (λ (z : List Bool). extended z gone3) before2 ∙ left;
+    }) c.leave_multiget.ensures.progress c.leave_multiget.ensures.gone c.leave_multiget.ensures.held
 
 pub pass_statement-returns-in_ok-pass_block-in-Multi-clause-scene : goal.pass_statement-returns-in_ok-pass_block-in-Multi-clause-scene
 pass_statement-returns-in_ok-pass_block-in-Multi-clause-scene t c =
@@ -214,7 +214,7 @@ pass_statement-returns-in_ok-pass_block-in-Multi-clause-scene t c =
     let after-it = c.leave_multiget.new.walk in
     let none : (owned loans c.args.statement.now).declares ≡ [] = rw c.in-Multi.is (declares-Multi loans c.in-Multi.table c.in-Multi.keys c.in-Multi.width c.in-Multi.some c.in-Multi.yes c.in-Multi.no) in
     on-ok c.leave_multiget.result _ _ (λ h.
-      let held : after-it.scene.held.items ≡ scene.held = unheld scene.held c.pass_block-in-Multi.new.walk.scene.held.items after-it.scene.held.items _ (ap (λ (z : scenes.Scene). z.held) inside) h in
-      let scope : after-it.scene.scope.items ≡ scene.scope = ap (λ (z : Vec Variable Global). z.items) c.leave_multiget.ensures.scene ∙ ap (λ (z : scenes.Scene). z.scope) inside in
-      let longer : scene.scope ++ [] ≡ scene.scope = append-nil scene.scope in
-      rw none cc) c.leave_multiget.ensures.held
+    let held : after-it.scene.held.items ≡ scene.held = unheld scene.held c.pass_block-in-Multi.new.walk.scene.held.items after-it.scene.held.items _ (ap (λ (z : scenes.Scene). z.held) inside) h in
+    let scope : after-it.scene.scope.items ≡ scene.scope = ap (λ (z : Vec Variable Global). z.items) c.leave_multiget.ensures.scene ∙ ap (λ (z : scenes.Scene). z.scope) inside in
+    let longer : scene.scope ++ [] ≡ scene.scope = append-nil scene.scope in
+    rw none cc) c.leave_multiget.ensures.held

@@ -12,5 +12,5 @@ invariant-pass_block-loop-statement l = record {
   gone : (pass_in_order (map (owned l.loans) (drop l.statement-index l.statement-items)) (seen l.walk.scene) l.walk.gone.items).gone ≡ (pass_in_order (map (owned l.loans) l.statement-items) (seen l.fn.walk.scene) l.fn.walk.gone.items).gone;
   returns : last_is_return l.returns (drop l.statement-index l.statement-items) ≡ last_is_return false l.statement-items;
   held : l.walk.scene.held.items ≡ l.fn.walk.scene.held.items;
-  outer : take (length l.fn.walk.scene.scope.items) l.walk.scene.scope.items ≡ l.fn.walk.scene.scope.items
+  outer : take (length l.fn.walk.scene.scope.items) l.walk.scene.scope.items ≡ l.fn.walk.scene.scope.items;
 }
