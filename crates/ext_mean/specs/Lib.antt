@@ -21,3 +21,11 @@ pub mod Asked
 pub mod Examples
 pub mod KeyLookups
 pub mod KeyLookupLaws
+pub mod Items
+pub mod Types
+pub mod TypesOfItems
+pub mod Typing
+pub mod Origins
+pub mod Borrowing
+pub mod OwnedItems
+pub mod Ownership

@@ -1,6 +1,8 @@
 //! The extension language: its tree, and what an extension means on the records that it reads.
 #![tactic(auto)]
 
+mod borrowing;
+mod check_codes;
 mod codes;
 mod examples;
 mod expr;
@@ -16,6 +18,8 @@ mod statement;
 mod token;
 mod tree;
 
+pub use borrowing::{Gift, Origin, Variable};
+pub use check_codes::{BorrowCode, TypeCode};
 pub use codes::SyntaxCode;
 pub use examples::worked_examples;
 pub use expr::{BinOp, Expr};

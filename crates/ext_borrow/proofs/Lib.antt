@@ -1,0 +1,5 @@
+pub mod ProgressLemmas
+pub mod TableLemmas
+pub mod GivingEquations
+pub mod OwnedEquations
+pub mod PassLemmas

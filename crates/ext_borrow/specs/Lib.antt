@@ -1,0 +1,4 @@
+pub mod Progress
+pub mod Refusals
+pub mod Scenes
+pub mod Walks

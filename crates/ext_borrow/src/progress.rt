@@ -1,0 +1,54 @@
+ghost use Rattle.std.specs.Prelude.{◌≡◌, IfOk, OnOk, [], ◌∷◌};
+ghost use Rattle.ext_borrow.specs.Progress.{after, behind, joined};
+
+use ext_mean::BorrowCode;
+use sp_base::Memory;
+
+/// How far a check has come through the items.
+#[derive(Clone, Copy, Debug)]
+pub struct Progress {
+    /// The number of the next item.
+    pub item: u32,
+    /// The first faulty item and its code.
+    pub found: Option<(u32, BorrowCode)>,
+}
+
+impl Progress {
+    /// Goes on behind one item.
+    pub fn note(&mut self, code: Option<BorrowCode>) -> Result<(), Memory>
+        ensures { OnOk result (self.new ≡ after self.old (code ∷ [])) }
+    {
+        if self.found.is_none() {
+            if let Some(code) = code {
+                self.found = Some((self.item, code));
+            }
+        }
+        match self.item.checked_add(1) {
+            Some(next) => {
+                self.item = next;
+                Ok(())
+            }
+            None => Err(Memory),
+        }
+    }
+
+    /// The place behind this item, with nothing found.
+    pub fn behind(&self) -> Result<Progress, Memory>
+        ensures { IfOk result (λ progress. progress ≡ behind self.now) }
+    {
+        match self.item.checked_add(1) {
+            Some(item) => Ok(Progress { item, found: None }),
+            None => Err(Memory),
+        }
+    }
+
+    /// Goes on behind items that were gone through apart, from the place behind this one.
+    pub fn join(&mut self, inner: Progress)
+        ensures { self.new ≡ joined self.old inner }
+    {
+        if self.found.is_none() {
+            self.found = inner.found;
+        }
+        self.item = inner.item;
+    }
+}

@@ -1,0 +1,3 @@
+pub mod ProgressLemmas
+pub mod TypingEquations
+pub mod WalkLemmas

@@ -1,0 +1,6 @@
+-- the parameters so far
+use Rattle.std.proofs.Common.{◌≡◌, take}
+use Rattle.ext_types.proofs.check.scope_of.Given as goal
+
+abbrev pub invariant-loop-param : goal.invariant-loop-param
+invariant-loop-param l = l.scope.items ≡ take l.param-index l.params
