@@ -29,5 +29,4 @@ pub fn runs_are_within_limits()
 /// The meaning of a look-up is that of its tree in the whole language.
 pub fn a_look_up_means_its_tree()
     ensures { IsTheLanguages }
-{
-}
+{}

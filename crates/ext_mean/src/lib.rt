@@ -24,7 +24,10 @@ pub use codes::SyntaxCode;
 pub use examples::worked_examples;
 pub use expr::{BinOp, Expr};
 pub use key_lookup::KeyLookup;
-pub use key_lookup_laws::{a_look_up_means_its_tree, greater_budgets_look_up_the_same, known_records_decide_look_ups, only_readable_is_wanted, only_writable_is_changed, runs_are_within_limits};
+pub use key_lookup_laws::{
+    a_look_up_means_its_tree, greater_budgets_look_up_the_same, known_records_decide_look_ups,
+    only_readable_is_wanted, only_writable_is_changed, runs_are_within_limits,
+};
 pub use laws::{
     a_wanted_read_joins, greater_budgets_mean_the_same, known_records_cost, known_records_decide,
     loops_unroll, reads_cost, runs_stay_within_budgets, wants_are_due, wants_cost, wants_persist,
