@@ -13,5 +13,9 @@ pub mod ExamplesProved
 pub mod AskedProved
 pub mod KnownProved
 pub mod LoopsProved
+pub mod Keeping
+pub mod KeepingExpressions
+pub mod KeepingStatements
+pub mod ConfinementProved
 pub mod KeyLookupProofs
 pub mod CanonicalForms

@@ -58,7 +58,7 @@ pub asked : (program : Program) (args : List ℕ) (budget : ℕ) (view : View) (
 asked program args budget view table key used e =
     wants-ends (run_of program (world_of args budget view)) table key used (sym (mean-ended program args budget view) ∙ e)
 
-key-tested : (key : List ℕ) → IsTrue (is_key key) → IsKey key
+pub key-tested : (key : List ℕ) → IsTrue (is_key key) → IsKey key
 key-tested key test =
     let parts = and-both (nat_le 1 (length key)) (nat_le (length key) 64) test in
     record { some = leb-true 1 (length key) parts.0; short = leb-true (length key) 64 parts.1 }

@@ -18,6 +18,7 @@ pub mod ProgramItems
 pub mod Loops
 pub mod Laws
 pub mod Asked
+pub mod Confinement
 pub mod Examples
 pub mod KeyLookups
 pub mod KeyLookupLaws

@@ -12,17 +12,17 @@ pub fn known_records_decide_look_ups()
 {}
 
 /// A run wants only places that its rights let it read.
-pub fn only_readable_is_wanted()
+pub fn look_ups_want_only_readable()
     ensures { OnlyReadableIsWanted }
 {}
 
 /// A run changes only tables that its rights let it write.
-pub fn only_writable_is_changed()
+pub fn look_ups_change_only_writable()
     ensures { OnlyWritableIsChanged }
 {}
 
 /// A run answers and changes no more than the limits allow.
-pub fn runs_are_within_limits()
+pub fn look_ups_are_within_limits()
     ensures { RunsAreWithinLimits }
 {}
 

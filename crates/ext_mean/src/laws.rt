@@ -1,3 +1,4 @@
+ghost use Rattle.ext_mean.specs.Confinement.{OnlyReadableIsWanted, OnlyWritableIsChanged, RunsAreWithinLimits};
 ghost use Rattle.ext_mean.specs.Loops.{LoopsUnroll};
 ghost use Rattle.ext_mean.specs.Laws.{GreaterBudgetsMeanTheSame, KnownRecordsDecide, RunsStayWithinBudgets, WantsAreDue, WantsCost, WantsPersist};
 ghost use Rattle.ext_mean.specs.Asked.{KnownRecordsCost, ReadsCost, WantedReadJoins};
@@ -50,4 +51,19 @@ pub fn known_records_cost()
 /// A loop is one turn with the loop behind it: no bound but the budget ends it.
 pub fn loops_unroll()
     ensures { LoopsUnroll }
+{}
+
+/// A run wants only places whose tables its rights let it read, with keys of 1 to 64 bytes.
+pub fn only_readable_is_wanted()
+    ensures { OnlyReadableIsWanted }
+{}
+
+/// A run changes only tables that its rights let it write.
+pub fn only_writable_is_changed()
+    ensures { OnlyWritableIsChanged }
+{}
+
+/// A run answers and changes no more than the limits allow.
+pub fn runs_are_within_limits()
+    ensures { RunsAreWithinLimits }
 {}

@@ -26,11 +26,12 @@ pub use expr::{BinOp, Expr};
 pub use key_lookup::KeyLookup;
 pub use key_lookup_laws::{
     a_look_up_means_its_tree, greater_budgets_look_up_the_same, known_records_decide_look_ups,
-    only_readable_is_wanted, only_writable_is_changed, runs_are_within_limits,
+    look_ups_are_within_limits, look_ups_change_only_writable, look_ups_want_only_readable,
 };
 pub use laws::{
     a_wanted_read_joins, greater_budgets_mean_the_same, known_records_cost, known_records_decide,
-    loops_unroll, reads_cost, runs_stay_within_budgets, wants_are_due, wants_cost, wants_persist,
+    loops_unroll, only_readable_is_wanted, only_writable_is_changed, reads_cost,
+    runs_are_within_limits, runs_stay_within_budgets, wants_are_due, wants_cost, wants_persist,
 };
 pub use lookup::{lookup_means, lookup_program};
 pub use name::Name;
