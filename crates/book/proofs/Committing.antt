@@ -12,13 +12,14 @@ use Rattle.sp_base.specs.declared.reads.ReadItem.{ReadItem}
 use Rattle.sp_base.specs.declared.writes.Write.{Write}
 use Rattle.sp_base.specs.Places.{Place, same_place}
 use Rattle.sp_base.specs.RightsList.{can_read, can_write}
-use Rattle.ext_mean.specs.declared.key_lookup.KeyLookup.{KeyLookup}
+use Rattle.ext_mean.specs.declared.tree.Program.{Program}
 use Rattle.ext_mean.specs.declared.run.Run.{Run}
 use Rattle.ext_mean.specs.Views.{Extends, part, whole, place_of, value_read}
 use Rattle.sp_base.specs.Limits.{IsArguments}
 use Rattle.ext_mean.specs.Outcomes.{ChangeFits, EndsWith, outcome_of}
-use Rattle.ext_mean.specs.KeyLookups.{mean}
-use Rattle.ext_mean.proofs.KeyLookupProofs.{known-records, only-readable, only-writable, within-limits}
+use Rattle.ext_mean.specs.Meaning.{mean}
+use Rattle.ext_mean.proofs.LawsProved.{known-records}
+use Rattle.ext_mean.proofs.ConfinementProved.{only-readable, only-writable, within-limits}
 use Rattle.book.specs.declared.entry.Entry.{Entry}
 use Rattle.book.specs.declared.entry.Home.TheVariants.{Server}
 use Rattle.book.specs.Asked.{AreAsked}
@@ -112,7 +113,7 @@ reads-extend journal reads rights held current = record {
 }
 
 -- a run that ended on current reads ends alike on the tables that now stand
-pub meant-whole : (program : KeyLookup) (args : List ℕ) (budget : ℕ) (journal : List Entry)
+pub meant-whole : (program : Program) (args : List ℕ) (budget : ℕ) (journal : List Entry)
     (reads : List ReadItem) (rights : RightsList) (outcome : Outcome) (writes : List Write)
     → AllByRecursion (IsHeld journal) reads → AllByRecursion (IsCurrent journal) reads
     → EndsWith (mean program args budget (part reads rights)) outcome writes
@@ -130,7 +131,7 @@ from-gets P f [] each = tt
 from-gets P f (x ∷ xs) each = (each 0 x refl, from-gets P f xs (λ k y found. each (suc k) y found))
 
 -- a run reads and writes only tables that its rights let it
-pub run-within : (grants : GrantsList) (call : Call) (program : KeyLookup) (reads : List ReadItem)
+pub run-within : (grants : GrantsList) (call : Call) (program : Program) (reads : List ReadItem)
     (rights : RightsList) (outcome : Outcome) (writes : List Write)
     → rights ≡ rights_of grants call.caller.tenant
     → AreAsked program call.args call.budget rights reads
@@ -149,7 +150,7 @@ run-within grants call program reads rights outcome writes own asked ends = reco
 }
 
 -- a run's entry is within the limits
-pub run-fits : (program : KeyLookup) (args : List ℕ) (budget : ℕ) (reads : List ReadItem)
+pub run-fits : (program : Program) (args : List ℕ) (budget : ℕ) (reads : List ReadItem)
     (rights : RightsList) (outcome : Outcome) (writes : List Write) → IsArguments args → length reads ≤ 6250
     → EndsWith (mean program args budget (part reads rights)) outcome writes
     → InvokeFits args outcome writes (map without_value reads)
@@ -164,7 +165,7 @@ run-fits program args budget reads rights outcome writes arguments few ends =
     }
 
 -- a finished run whose reads are held and have not moved is legal after this journal
-pub run-legal : (grants : GrantsList) (journal : List Entry) (call : Call) (program : KeyLookup)
+pub run-legal : (grants : GrantsList) (journal : List Entry) (call : Call) (program : Program)
     (reads : List ReadItem) (rights : RightsList) (outcome : Outcome) (writes : List Write)
     → rights ≡ rights_of grants call.caller.tenant → Names journal call program
     → AllByRecursion (IsHeld journal) reads → moved journal reads ≡ None

@@ -6,11 +6,11 @@ use Rattle.sp_base.specs.declared.outcomes.Outcome.{Outcome}
 use Rattle.sp_base.specs.declared.reads.ReadItem.{ReadItem}
 use Rattle.sp_base.specs.declared.writes.Write.{Write}
 use Rattle.sp_base.specs.RightsList.{can_read, can_write}
-use Rattle.ext_mean.specs.declared.key_lookup.KeyLookup.{KeyLookup}
-use Rattle.ext_mean.specs.KeyLookups.{Spells}
+use Rattle.ext_mean.specs.declared.tree.Program.{Program}
+use Rattle.ext_mean.specs.Text.{Spells}
 use Rattle.ext_mean.specs.Views.{whole, place_of}
 use Rattle.ext_mean.specs.Outcomes.{EndsWith}
-use Rattle.ext_mean.specs.KeyLookups.{mean}
+use Rattle.ext_mean.specs.Meaning.{mean}
 use Rattle.book.specs.declared.entry.Entry.{Entry}
 use Rattle.book.specs.declared.entry.Entry.TheVariants.{Invoke, Put, Install}
 use Rattle.book.specs.declared.entry.Home.{Home}
@@ -25,7 +25,7 @@ Each Holds journal =
     (i : ℕ) (entry : Entry) → slice_get journal i ≡ Some entry → Holds (take i journal) entry
 
 -- the extension number of a call names a text of its tenant, and that text spells the program
-pub record Names (before : List Entry) (call : Call) (program : KeyLookup) : Type 0 where
+pub record Names (before : List Entry) (call : Call) (program : Program) : Type 0 where
   pub text : List ℕ
   pub found : slice_get (texts_of before call.caller.tenant) call.ext.0 ≡ Some text
   pub spelled : Spells text program
@@ -39,7 +39,7 @@ abbrev pub IsCurrent : List Entry → ReadItem → Type 0
 IsCurrent before read = read.version ≡ version_of before (place_of read)
 
 -- where the run ended in the server, its reads are those that its program asks for
-abbrev pub AskedAtHome : GrantsList → List Entry → Call → KeyLookup → List ReadItem → Home → Type 0
+abbrev pub AskedAtHome : GrantsList → List Entry → Call → Program → List ReadItem → Home → Type 0
 AskedAtHome grants before call program reads Server =
     AreAsked program call.args call.budget (rights_of grants call.caller.tenant) (map (valued before) reads)
 AskedAtHome grants before call program reads Client = Unit {0}
@@ -47,7 +47,7 @@ AskedAtHome grants before call program reads Client = Unit {0}
 -- A committed call is what its source means alone on the tables then standing, with its whole budget:
 -- its outcome, its changes, the versions that it read, and which records it read.
 pub record IsLegal (grants : GrantsList) (before : List Entry) (call : Call) (outcome : Outcome) (writes : List Write) (reads : List ReadItem) (home : Home) : Type 0 where
-  pub program : KeyLookup
+  pub program : Program
   pub names : Names before call program
   pub meant : EndsWith
       (mean program call.args call.budget (whole (tables_of before) (rights_of grants call.caller.tenant)))

@@ -1,4 +1,5 @@
 ghost use Rattle.std.specs.Prelude.{◌≡◌, ◌≤◌, ◌+◌, ◌<◌, ◌⊎◌, ◌↔◌, IsTrue, IfOk, OnOk, OnErr, [], None, length, map};
+ghost use Rattle.std.specs.Arc.{arc_value};
 ghost use Rattle.std.specs.List.{AllByRecursion};
 ghost use Rattle.sp_base.specs.Limits.{IsArguments, IsValue};
 ghost use Rattle.ext_mean.specs.Views.{place_of};
@@ -204,7 +205,7 @@ impl Book {
     pub fn commit(&mut self, done: Finished) -> Commit
         requires arguments { IsArguments done.call.args }
         requires held { AllByRecursion (IsHeld self.old.journal) done.reads }
-        requires named { Names self.old.journal done.call done.program }
+        requires named { Names self.old.journal done.call (arc_value done.program) }
         requires rights { done.rights ≡ rights_of self.old.grants done.call.caller.tenant }
         ensures answer { (result ≡ Commit.Memory) ⊎ (result ≡ verdict self.old done.call
             (entry_of done.call done.outcome done.writes done.reads) done.outcome done.reads) }
@@ -246,7 +247,7 @@ impl Book {
     fn settle(&mut self, done: Finished) -> Commit
         requires arguments { IsArguments done.call.args }
         requires held { AllByRecursion (IsHeld self.old.journal) done.reads }
-        requires named { Names self.old.journal done.call done.program }
+        requires named { Names self.old.journal done.call (arc_value done.program) }
         requires rights { done.rights ≡ rights_of self.old.grants done.call.caller.tenant }
         requires in_order { last_of self.old.journal done.call.caller < done.call.number.0 }
         requires still { moved self.old.journal done.reads ≡ None }

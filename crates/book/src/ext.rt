@@ -1,16 +1,18 @@
 ghost use Rattle.std.specs.Prelude.{◌≤◌, length};
-ghost use Rattle.ext_mean.specs.KeyLookups.{Spells};
+ghost use Rattle.std.specs.Arc.{arc_value};
+ghost use Rattle.ext_mean.specs.Text.{Spells};
 
-use ext_mean::KeyLookup;
+use ext_mean::Program;
 use sp_base::Blob;
+use std::sync::Arc;
 
 /// An extension: a text, and the program that it spells.
-#[derive(Debug, Drop)]
+#[derive(Drop)]
 pub struct Ext {
     /// From 1 to 16,384 bytes.
     pub text: Blob,
-    pub program: KeyLookup,
-    ghost spelled: { Spells text program },
+    pub program: Arc<Program>,
+    ghost spelled: { ∥ Spells text (arc_value program) ∥₁ },
     ghost some: { 1 ≤ length text },
     ghost short: { length text ≤ 16384 },
 }

@@ -1,25 +1,27 @@
 ghost use Rattle.std.specs.Prelude.{◌≤◌, length};
-ghost use Rattle.ext_mean.specs.KeyLookups.{mean};
+ghost use Rattle.std.specs.Arc.{arc_value};
+ghost use Rattle.ext_mean.specs.Meaning.{mean};
 ghost use Rattle.ext_mean.specs.Outcomes.{EndsWith};
 ghost use Rattle.ext_mean.specs.Views.{part};
 ghost use Rattle.book.specs.Asked.{AreAsked};
 
-use ext_mean::KeyLookup;
+use ext_mean::Program;
 use sp_base::{Call, Outcome, Reads, Rights, Writes};
+use std::sync::Arc;
 
 /// A run that has ended: what its program means on the records that it read, and these are in order
 /// the records that it asked for.
-#[derive(Debug, Drop)]
+#[derive(Drop)]
 pub struct Finished {
     pub call: Call,
-    pub program: KeyLookup,
+    pub program: Arc<Program>,
     /// The rights with which it ran.
     pub rights: Rights,
     /// At most 6,250.
     pub reads: Reads,
     pub outcome: Outcome,
     pub writes: Writes,
-    ghost meant: { EndsWith (mean program call.args call.budget (part reads rights)) outcome writes },
-    ghost asked: { AreAsked program call.args call.budget rights reads },
+    ghost meant: { EndsWith (mean (arc_value program) call.args call.budget (part reads rights)) outcome writes },
+    ghost asked: { AreAsked (arc_value program) call.args call.budget rights reads },
     ghost few: { length reads ≤ 6250 },
 }

@@ -17,5 +17,10 @@ pub mod Keeping
 pub mod KeepingExpressions
 pub mod KeepingStatements
 pub mod ConfinementProved
+pub mod TokenEnds
+pub mod Numerals
+pub mod PlainTexts
+pub mod Bounding
+pub mod LookupSpelled
 pub mod KeyLookupProofs
 pub mod CanonicalForms

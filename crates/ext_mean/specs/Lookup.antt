@@ -1,5 +1,7 @@
--- The form of extension that looks its arguments up in one table, and its meaning as straight work.
-use Rattle.std.specs.Prelude.{◌≡◌, ℕ, ◌+◌, ◌&&◌, List, [], ◌∷◌, ◌++◌, Option, Some, None, length, nat_le, codes}
+-- The form of extension that looks its arguments up in one table: its tree, its text, and its meaning
+-- as straight work.
+use Rattle.std.specs.Prelude.{◌≡◌, ◌<◌, ◌^◌, ℕ, ◌+◌, ◌&&◌, List, [], ◌∷◌, ◌++◌, Option, Some, None, length, nat_le, codes}
+use Rattle.std.specs.Fmt.{decimal}
 use Rattle.sp_base.specs.declared.outcomes.Trap.TheVariants.{Size, Denied}
 use Rattle.sp_base.specs.Places.{Place}
 use Rattle.sp_base.specs.RightsList.{can_read}
@@ -12,6 +14,7 @@ use Rattle.ext_mean.specs.declared.statement.Block.{Block}
 use Rattle.ext_mean.specs.declared.tree.Program.{Program}
 use Rattle.ext_mean.specs.declared.run.Run.{Run}
 use Rattle.ext_mean.specs.declared.run.Run.TheVariants.{Done}
+use Rattle.ext_mean.specs.Text.{Spells}
 use Rattle.ext_mean.specs.Views.{View}
 use Rattle.ext_mean.specs.Work.{World, Step, Next, Ends, Work, ◌>>=◌, give, charge, require, known_or_wanted}
 use Rattle.ext_mean.specs.Meaning.{mean, start}
@@ -36,6 +39,19 @@ unfoldable pub lookup_program : ℕ → ℕ → Program
 lookup_program table code = record {
   functions = record { name = codes "main"; params = []; result = kind.Int; body = lookup_block table code } ∷ [];
 }
+
+-- the same on one line, with its two numbers in decimal
+abbrev pub lookup_text : ℕ → ℕ → List ℕ
+lookup_text table code =
+    codes "fn main() -> int { get(" ++ decimal table
+    ++ codes ", args()) { some s => { resp(s); } none => { } } return " ++ decimal code
+    ++ codes "; }" ++ 10 ∷ []
+
+-- the text spells the tree
+abbrev pub LookupIsSpelled : Type 0
+LookupIsSpelled =
+    (table code : ℕ) → table < 2 ^ 64 → code < 2 ^ 64
+    → Spells (lookup_text table code) (lookup_program table code)
 
 -- the read: the key's size, the table's level, 16 units, and then the record
 abbrev pub lookup_get : World → ℕ → List ℕ → Work (Option (List ℕ))

@@ -33,7 +33,7 @@ pub use laws::{
     loops_unroll, only_readable_is_wanted, only_writable_is_changed, reads_cost,
     runs_are_within_limits, runs_stay_within_budgets, wants_are_due, wants_cost, wants_persist,
 };
-pub use lookup::{lookup_means, lookup_program};
+pub use lookup::{lookup_is_spelled, lookup_means, lookup_program};
 pub use name::Name;
 pub use run::Run;
 pub use state::{Buffer, Local, State, Value};

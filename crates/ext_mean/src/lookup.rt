@@ -1,5 +1,5 @@
 ghost use Rattle.std.specs.Prelude.{◌≡◌, IfOk, codes, [], ◌∷◌};
-ghost use Rattle.ext_mean.specs.Lookup.{LookupMeans, answering, block_of, lookup_block, looking, lookup_program};
+ghost use Rattle.ext_mean.specs.Lookup.{LookupIsSpelled, LookupMeans, answering, block_of, lookup_block, looking, lookup_program};
 
 use crate::expr::Expr;
 use crate::name::Name;
@@ -53,4 +53,9 @@ fn looking(alloc: Global, table: u64) -> Result<Statement, Memory>
 /// The meaning of the form is its straight work.
 pub fn lookup_means()
     ensures { LookupMeans }
+{}
+
+/// The text of the form spells its tree.
+pub fn lookup_is_spelled()
+    ensures { LookupIsSpelled }
 {}

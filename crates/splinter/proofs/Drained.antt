@@ -1,7 +1,7 @@
 -- Turns of the drain, one behind another.
 use Rattle.std.specs.Prelude.{Result, Ok, Err, OnOk, map}
 use Rattle.std.proofs.Common.{◌≡◌, List, [], ◌∷◌, ◌++◌, ap, sym, ◌∙◌, subst, append_assoc}
-use Rattle.ext_mean.specs.declared.key_lookup.KeyLookup.{KeyLookup}
+use Rattle.ext_mean.specs.declared.tree.Program.{Program}
 use Rattle.book.specs.GrantsList.{RightsList, rights_of}
 use Rattle.book.specs.Verdict.{BookValue}
 use Rattle.splinter.specs.declared.line.Answer.{Answer}
@@ -14,7 +14,7 @@ use Rattle.splinter.specs.Play.{Ended, turn_of, Drains, last_turn, more_turns, i
 use Rattle.splinter.specs.Stepping.{StepIs}
 
 -- the turn that ends the call is the last
-pub drained-last : {E : Type 0} (r : Result (Unit {0}) E) (program : KeyLookup) (rights : RightsList)
+pub drained-last : {E : Type 0} (r : Result (Unit {0}) E) (program : Program) (rights : RightsList)
     (book after : BookValue) (live : Live) (given : Step) (line : Line) (before answers : List Answer)
     → StepIs given (turn_of program rights book live) book after → given ≡ step.Ended line
     → OnOk r (answers ≡ before ++ in_drain line ∷ [])
@@ -26,7 +26,7 @@ drained-last (Ok x) program rights book after live given line before answers giv
 drained-last (Err x) program rights book after live given line before answers gives ends told = tt
 
 -- a call that goes on, and then what it does
-pub drained-more : {E : Type 0} (r : Result (Unit {0}) E) (program : KeyLookup) (rights : RightsList)
+pub drained-more : {E : Type 0} (r : Result (Unit {0}) E) (program : Program) (rights : RightsList)
     (book between after : BookValue) (live next : Live) (given : Step) (line : Line) (before middle answers : List Answer)
     → StepIs given (turn_of program rights book live) book between → given ≡ step.GoesOn line next
     → next.call ≡ live.call → rights ≡ rights_of book.grants live.call.caller.tenant

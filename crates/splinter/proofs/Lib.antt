@@ -7,6 +7,8 @@ pub mod Spelling
 pub mod ScriptLaws
 pub mod Texts
 pub mod Turns
+pub mod Meanings
+pub mod Naming
 pub mod Drained
 pub mod Sources
 pub mod Playing

@@ -1,4 +1,5 @@
 pub mod Fields
+pub mod LookUps
 pub mod Script
 pub mod Reading
 pub mod ScriptLines

@@ -5,11 +5,10 @@ use Rattle.sp_base.specs.declared.outcomes.Outcome.{Outcome}
 use Rattle.sp_base.specs.declared.outcomes.Outcome.TheVariants as outcome
 use Rattle.sp_base.specs.declared.reads.ReadItem.{ReadItem}
 use Rattle.sp_base.specs.declared.writes.Write.{Write}
-use Rattle.ext_mean.specs.declared.key_lookup.KeyLookup.{KeyLookup}
+use Rattle.ext_mean.specs.declared.tree.Program.{Program}
 use Rattle.ext_mean.specs.declared.run.Run.{Run}
 use Rattle.ext_mean.specs.declared.run.Run.TheVariants as run
-use Rattle.ext_mean.specs.KeyLookups.{mean}
-use Rattle.ext_mean.specs.KeyLookups.{text_of}
+use Rattle.ext_mean.specs.Meaning.{mean}
 use Rattle.ext_mean.specs.Views.{part}
 use Rattle.book.specs.declared.answers.Commit.{Commit}
 use Rattle.book.specs.declared.answers.Commit.TheVariants as commit
@@ -30,6 +29,7 @@ use Rattle.splinter.specs.declared.line.Said.{Said}
 use Rattle.splinter.specs.declared.line.Said.TheVariants as said
 use Rattle.splinter.specs.declared.live.Live.{Live}
 use Rattle.splinter.specs.declared.script.Script.{Script}
+use Rattle.splinter.specs.LookUps.{program_of, text_of}
 
 -- the units of one turn of the drain
 abbrev pub quantum : ℕ
@@ -79,15 +79,15 @@ turned book live (run.Done reply writes used) = ended book live (outcome.Done re
 turned book live (run.Trapped trap used) = ended book live (outcome.Trapped trap) []
 
 -- the meaning with the units spent and one quantum more, on the records read
-abbrev pub meaning_of_turn : KeyLookup → RightsList → Live → Run
+abbrev pub meaning_of_turn : Program → RightsList → Live → Run
 meaning_of_turn program rights live =
     mean program live.call.args (min live.call.budget (live.spent + quantum)) (part live.reads rights)
 
-abbrev pub turn_of : KeyLookup → RightsList → BookValue → Live → Turned
+abbrev pub turn_of : Program → RightsList → BookValue → Live → Turned
 turn_of program rights book live = turned book live (meaning_of_turn program rights live)
 
 -- the lines and the book of turns until the call has ended
-pub data Drains (program : KeyLookup) (rights : RightsList) : BookValue → Live → List Line → BookValue → Type 0 where
+pub data Drains (program : Program) (rights : RightsList) : BookValue → Live → List Line → BookValue → Type 0 where
   last_turn : (book : BookValue) (live : Live) (said : Line) (after : BookValue)
       → turn_of program rights book live ≡ Ended said after → Drains program rights book live (said ∷ []) after
   more_turns : (book : BookValue) (live : Live) (said : Line) (next : Live) (lines : List Line) (after : BookValue)
@@ -106,7 +106,7 @@ abbrev pub put_entry : Script → Entry
 put_entry script = entry.Put script.tenant script.put_table script.put_key script.put_value
 
 abbrev pub ext_entry : Script → Entry
-ext_entry script = entry.Install script.tenant (text_of script.program)
+ext_entry script = entry.Install script.tenant (text_of script.look_up)
 
 abbrev pub put_said : Put → Line
 put_said (put.Done n) = line.Put n
@@ -164,7 +164,7 @@ pub record RunsInDrain (script : Script) (answers : List Answer) (journal : List
   pub found : script.call.ext.0 < ext_count script
   pub lines : List Line
   pub after : BookValue
-  pub drains : Drains script.program (rights_of (grants_of script) script.tenant) (ext_book script) (begun script) lines after
+  pub drains : Drains (program_of script.look_up) (rights_of (grants_of script) script.tenant) (ext_book script) (begun script) lines after
   pub answers_are : answers ≡ first_answers script ++ at_begin script said.Queued ∷ map in_drain lines
   pub journal_is : journal ≡ after.journal
 

@@ -7,9 +7,9 @@ use Rattle.sp_base.specs.declared.numbers.TenantId.{TenantId}
 use Rattle.sp_base.specs.declared.rights.Level.{Level}
 use Rattle.sp_base.specs.declared.rights.Level.TheVariants.{Nothing, Read, Write}
 use Rattle.sp_base.specs.Limits.{IsKey, IsValue, IsArguments}
-use Rattle.ext_mean.specs.KeyLookups.{text_of}
 use Rattle.splinter.specs.declared.script.Script.{Script}
 use Rattle.splinter.specs.Fields.{AreBytes, byte_field}
+use Rattle.splinter.specs.LookUps.{text_of}
 
 -- the call is the tenant's, does not allow a push, and has its fields in their ranges
 pub record IsScriptCall (tenant : TenantId) (call : Call) : Type 0 where
@@ -35,8 +35,8 @@ pub record IsScript (script : Script) : Type 0 where
   pub put_key : IsKey script.put_key
   pub put_value_bytes : AreBytes script.put_value
   pub put_value : IsValue script.put_value
-  pub table : script.program.table < 2 ^ 64
-  pub code : script.program.code < 2 ^ 64
+  pub table : script.look_up.table < 2 ^ 64
+  pub code : script.look_up.code < 2 ^ 64
   pub call : IsScriptCall script.tenant script.call
 
 -- the word of a level
@@ -81,7 +81,7 @@ newline = 10 ∷ []
 abbrev pub script_text : Script → List ℕ
 script_text script =
     concat (tenant_line script ∷ newline ∷ table_line script ∷ newline ∷ put_line script ∷ newline
-    ∷ ext_line script ∷ newline ∷ text_of script.program ∷ begin_line script ∷ [])
+    ∷ ext_line script ∷ newline ∷ text_of script.look_up ∷ begin_line script ∷ [])
 
 -- the input spells the script; its last newline may be missing
 pub record Spells (input : List ℕ) (script : Script) : Type 0 where

@@ -92,7 +92,7 @@ script_of parts = record {
   put_table = record { 0 = parts.1.1.0.0 };
   put_key = parts.1.1.0.1.0;
   put_value = parts.1.1.0.1.1;
-  program = record { table = parts.1.1.1.0.0; code = parts.1.1.1.0.1 };
+  look_up = record { table = parts.1.1.1.0.0; code = parts.1.1.1.0.1 };
   call = parts.1.1.1.1;
 }
 

@@ -1,13 +1,16 @@
-//! The plain evaluator: what a program means on the records that it has read.
+//! The evaluator of look-ups: what they mean on the records that they have read.
 
 ghost use Rattle.std.specs.Prelude.{◌≡◌, ◌≤◌, IfOk};
+ghost use Rattle.std.specs.Arc.{arc_value};
 ghost use Rattle.std.specs.Option.{option_copied, option_map};
 ghost use Rattle.sp_base.specs.Places.{same_place};
-ghost use Rattle.ext_mean.specs.KeyLookups.{mean};
+ghost use Rattle.ext_mean.specs.Meaning.{mean};
 ghost use Rattle.ext_mean.specs.Views.{part, place_of, value_read};
+ghost use Rattle.splinter.specs.LookUps.{straight};
 ghost use Rattle.splinter.specs.Steps.{answered, returned};
 
-use ext_mean::{KeyLookup, Run};
+use crate::look_up::{Extension, LookUp};
+use ext_mean::Run;
 use sp_base::{
     Blob, Key, KeyFault, Level, Memory, ReadItem, Reply, Rights, TableId, Trap, Writes, same_bytes,
 };
@@ -35,16 +38,31 @@ fn is_at(read: &ReadItem, table: u64, key: &[u8]) -> bool
     u64::from(read.table.0) == table && same_bytes(read.key.bytes(), key)
 }
 
-/// The meaning of a program with these arguments and this budget, on the records read.
+/// The meaning of an extension with these arguments and this budget, on the records read.
 pub fn evaluate(
     alloc: Global,
-    program: &KeyLookup,
+    extension: &Extension,
     args: &[u8],
     budget: u32,
     rights: &Rights,
     reads: &[ReadItem],
 ) -> Result<Run, Memory>
-    ensures { IfOk result (λ run. run ≡ mean program.now args.now budget (part reads.now rights.now)) }
+    ensures { IfOk result (λ run. run ≡ mean (arc_value extension.now.program) args.now budget
+        (part reads.now rights.now)) }
+{
+    evaluate_look_up(alloc, &extension.look_up, args, budget, rights, reads)
+}
+
+/// The straight work of a look-up.
+fn evaluate_look_up(
+    alloc: Global,
+    look_up: &LookUp,
+    args: &[u8],
+    budget: u32,
+    rights: &Rights,
+    reads: &[ReadItem],
+) -> Result<Run, Memory>
+    ensures { IfOk result (λ run. run ≡ straight look_up.now args.now budget (part reads.now rights.now)) }
 {
     if budget < 1 {
         return Ok(Run::Spent);
@@ -59,7 +77,7 @@ pub fn evaluate(
             });
         }
     };
-    if rights.level(program.table) == Level::Nothing {
+    if rights.level(look_up.table) == Level::Nothing {
         return Ok(Run::Trapped {
             trap: Trap::Denied,
             used: 1,
@@ -68,28 +86,23 @@ pub fn evaluate(
     if budget < 17 {
         return Ok(Run::Spent);
     }
-    match read_of(reads, program.table, args) {
+    match read_of(reads, look_up.table, args) {
         None => Ok(Run::Wants {
-            table: TableId(program.table as u32),
+            table: TableId(look_up.table as u32),
             key,
             used: 17,
         }),
-        Some(read) => answer(alloc, program, budget, read.value.as_ref()),
+        Some(read) => answer(alloc, look_up, budget, read.value.as_ref()),
     }
 }
 
 /// What follows the read: the reply and the code.
-fn answer(
-    alloc: Global,
-    program: &KeyLookup,
-    budget: u32,
-    value: Option<&Blob>,
-) -> Result<Run, Memory>
+fn answer(alloc: Global, look_up: &LookUp, budget: u32, value: Option<&Blob>) -> Result<Run, Memory>
     requires { 17 ≤ budget }
-    ensures { IfOk result (λ run. run ≡ answered program.now budget (option_copied value.entry)) }
+    ensures { IfOk result (λ run. run ≡ answered look_up.now budget (option_copied value.entry)) }
 {
     let Some(value) = value else {
-        return finished(alloc, program, budget, &[], 18);
+        return finished(alloc, look_up, budget, &[], 18);
     };
     if budget < 18 {
         return Ok(Run::Spent);
@@ -100,25 +113,25 @@ fn answer(
             used: 18,
         });
     }
-    finished(alloc, program, budget, value.bytes(), 19)
+    finished(alloc, look_up, budget, value.bytes(), 19)
 }
 
 /// The `return`, with the last of so many units.
 fn finished(
     alloc: Global,
-    program: &KeyLookup,
+    look_up: &LookUp,
     budget: u32,
     bytes: &[u8],
     used: u32,
 ) -> Result<Run, Memory>
-    ensures { IfOk result (λ run. run ≡ returned program.now budget bytes.now used) }
+    ensures { IfOk result (λ run. run ≡ returned look_up.now budget bytes.now used) }
 {
     if budget < used {
         return Ok(Run::Spent);
     }
     Ok(Run::Done {
         reply: Reply {
-            code: program.code,
+            code: look_up.code,
             bytes: Blob::of(alloc, bytes)?,
         },
         writes: Writes::new(alloc),

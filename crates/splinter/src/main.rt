@@ -5,6 +5,7 @@ mod evaluator;
 mod fields;
 mod line;
 mod live;
+mod look_up;
 mod play;
 mod printing;
 mod reading;

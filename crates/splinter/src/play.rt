@@ -1,25 +1,26 @@
 //! What a script does: its events in order, and then turns until its call has ended.
 
 ghost use Rattle.std.specs.Prelude.{◌≡◌, ◌≤◌, ◌<◌, ◌^◌, [], ◌∷◌, ◌++◌, length, IfOk, OnOk};
-ghost use Rattle.ext_mean.specs.KeyLookups.{text_of};
+ghost use Rattle.std.specs.Arc.{arc_value};
 ghost use Rattle.sp_base.specs.Limits.{IsArguments, IsValue};
 ghost use Rattle.book.specs.Folds.{texts_of};
 ghost use Rattle.book.specs.GrantsList.{rights_of};
 ghost use Rattle.book.specs.Legal.{Names};
 ghost use Rattle.splinter.specs.Draining.{BeginGives, DrainedTo, PutGives, InstallGives};
+ghost use Rattle.splinter.specs.LookUps.{text_of};
 ghost use Rattle.splinter.specs.Play.{Plays, grants_of, in_drain, of_call};
 ghost use Rattle.splinter.specs.Script.{IsScript};
 ghost use Rattle.splinter.specs.Steps.{IsLive};
 
 use crate::line::{Answer, Line, Prefix, Said};
 use crate::live::Live;
+use crate::look_up::Extension;
 use crate::script::Script;
-use crate::text::Text;
 use crate::turn::{Step, turn};
 use book::{Book, Ext, Grants, Install, MOST_ENTRIES, Put};
-use ext_mean::KeyLookup;
 use sp_base::{Blob, Call, Key, Memory, Reads, Rights, TableId, TenantId};
 use std::alloc::Global;
+use std::sync::Arc;
 
 /// What a script leaves: its answers in order, and the book.
 #[derive(Debug, Drop)]
@@ -42,15 +43,16 @@ pub fn play(alloc: Global, script: Script) -> Result<Played, Memory>
         put_table,
         put_key,
         put_value,
-        program,
+        look_up,
         call,
         ..
     } = script;
     let line = put(&mut book, tenant, put_table, put_key, put_value)?;
     answers.push(at(3, line))?;
-    let line = install(alloc, &mut book, tenant, program)?;
+    let extension = Extension::of(alloc, look_up)?;
+    let line = install(alloc, &mut book, tenant, &extension)?;
     answers.push(at(4, line))?;
-    begin(alloc, &mut book, &program, call, &mut answers)?;
+    begin(alloc, &mut book, &extension, call, &mut answers)?;
     Ok(Played { answers, book })
 }
 
@@ -80,14 +82,14 @@ fn at(number: u32, line: Line) -> Answer
 fn begin(
     alloc: Global,
     book: &mut Book,
-    program: &KeyLookup,
+    extension: &Extension,
     call: Call,
     answers: &mut Vec<Answer>,
 ) -> Result<(), Memory>
-    requires named { call.ext.0 < length (texts_of book.old.journal call.caller.tenant) → Names book.old.journal call program.now }
+    requires named { call.ext.0 < length (texts_of book.old.journal call.caller.tenant) → Names book.old.journal call (arc_value extension.now.program) }
     requires arguments { IsArguments call.args }
     requires budget { call.budget ≤ 100000 }
-    ensures { OnOk result (BeginGives program.now book.old call answers.old.items answers.new.items book.new) }
+    ensures { OnOk result (BeginGives (arc_value extension.now.program) book.old call answers.old.items answers.new.items book.new) }
 {
     let count = book.ext_count(call.caller.tenant);
     if call.ext.0 >= count {
@@ -102,7 +104,7 @@ fn begin(
         reads: Reads::new(alloc),
         spent: 0,
     };
-    drain(alloc, book, program, live, answers)
+    drain(alloc, book, extension, live, answers)
 }
 
 fn said_of_call(call: &Call, said: Said) -> Line
@@ -139,16 +141,15 @@ fn install(
     alloc: Global,
     book: &mut Book,
     tenant: TenantId,
-    program: KeyLookup,
+    extension: &Extension,
 ) -> Result<Line, Memory>
-    requires table { program.table < 2 ^ 64 }
-    requires code { program.code < 2 ^ 64 }
-    ensures { IfOk result (InstallGives book.old book.new tenant program) }
+    requires table { extension.now.look_up.table < 2 ^ 64 }
+    requires code { extension.now.look_up.code < 2 ^ 64 }
+    ensures { IfOk result (InstallGives book.old book.new tenant (text_of extension.now.look_up)) }
 {
-    let ext = Ext {
-        text: source(alloc, program)?,
-        program,
-    };
+    let text = extension.look_up.text(alloc)?;
+    let program = Arc::try_clone(&extension.program)?;
+    let ext = Ext { text, program };
     match book.install(tenant, ext) {
         Install::Installed { n, ext } => Ok(Line::Installed { n, ext }),
         Install::Full { .. } => Ok(Line::Full),
@@ -156,36 +157,23 @@ fn install(
     }
 }
 
-/// The text of a program.
-fn source(alloc: Global, program: KeyLookup) -> Result<Blob, Memory>
-    ensures { IfOk result (λ text. text ≡ text_of program) }
-{
-    let mut text = Text::new(alloc);
-    text.add(b"fn main() -> int { get(")?;
-    text.add_number(program.table)?;
-    text.add(b", args()) { some s => { resp(s); } none => { } } return ")?;
-    text.add_number(program.code)?;
-    text.add(b"; }\n")?;
-    Ok(text.into_blob())
-}
-
 /// Gives a call turns until it has ended, and tells each. A call of the one form takes at most two.
 fn drain(
     alloc: Global,
     book: &mut Book,
-    program: &KeyLookup,
+    extension: &Extension,
     live: Live,
     answers: &mut Vec<Answer>,
 ) -> Result<(), Memory>
-    requires { IsLive program.now book.old live }
-    ensures { OnOk result (DrainedTo program.now (rights_of book.old.grants live.call.caller.tenant)
+    requires { IsLive (arc_value extension.now.program) book.old live }
+    ensures { OnOk result (DrainedTo (arc_value extension.now.program) (rights_of book.old.grants live.call.caller.tenant)
         book.old live answers.old.items answers.new.items book.new) }
 {
-    let step = turn(alloc, book, program, live)?;
+    let step = turn(alloc, book, extension, live)?;
     match step {
         Step::GoesOn(line, next) => {
             tell(answers, line)?;
-            drain(alloc, book, program, next, answers)
+            drain(alloc, book, extension, next, answers)
         }
         Step::Ended(line) => tell(answers, line),
     }

@@ -27,7 +27,7 @@ fn lines(alloc: Global, text: &[u8]) -> Result<(Script, &[u8]), ReadFault>
     let ((tenant, key), rest) = tenant_line(text)?;
     let ((granted, level), rest) = table_line(rest, tenant)?;
     let (put, rest) = put_line(alloc, rest, tenant)?;
-    let (program, rest) = extension(rest, tenant)?;
+    let (look_up, rest) = extension(rest, tenant)?;
     let (call, rest) = begin_line(alloc, rest, tenant)?;
     let script = Script {
         tenant,
@@ -37,7 +37,7 @@ fn lines(alloc: Global, text: &[u8]) -> Result<(Script, &[u8]), ReadFault>
         put_table: put.table,
         put_key: put.key,
         put_value: put.value,
-        program,
+        look_up,
         call,
     };
     Ok((script, rest))

@@ -1,4 +1,4 @@
-use ext_mean::KeyLookup;
+use crate::look_up::LookUp;
 use sp_base::{Blob, Call, Key, Level, TableId, TenantId};
 
 /// A script of the one form: a tenant with one table, one record that it puts, one extension that it
@@ -15,6 +15,6 @@ pub struct Script {
     pub put_table: TableId,
     pub put_key: Key,
     pub put_value: Blob,
-    pub program: KeyLookup,
+    pub look_up: LookUp,
     pub call: Call,
 }

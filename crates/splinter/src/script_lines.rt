@@ -5,7 +5,7 @@ ghost use Rattle.splinter.specs.Reading.{Gives};
 ghost use Rattle.splinter.specs.ScriptLines.{next_number_at, level_at, tenant_line_at, table_line_at, put_line_at, extension_at, begin_line_at, call_at, put_parts};
 
 use crate::fields::{ReadFault, blob, key, number, rest_of, same_number, small_number, word};
-use ext_mean::KeyLookup;
+use crate::look_up::LookUp;
 use sp_base::{Blob, Call, CallNo, Caller, ExtNo, Key, Level, TableId, TenantId};
 use std::alloc::Global;
 
@@ -93,7 +93,7 @@ pub fn put_line(alloc: Global, text: &[u8], tenant: TenantId) -> Result<(Put, &[
 
 /// Reads `ext T 1` and the line of text behind it.
 #[tactic(auto, unfolding(crate::specs::ScriptLines::extension_at))]
-pub fn extension(text: &[u8], tenant: TenantId) -> Result<(KeyLookup, &[u8]), ReadFault>
+pub fn extension(text: &[u8], tenant: TenantId) -> Result<(LookUp, &[u8]), ReadFault>
     ensures { Gives (λ x. ((x.0.table, x.0.code), x.1.now)) result (extension_at tenant.0 text.now) }
 {
     let rest = word(text, b"ext ")?;
@@ -107,7 +107,7 @@ pub fn extension(text: &[u8], tenant: TenantId) -> Result<(KeyLookup, &[u8]), Re
     )?;
     let (code, rest) = number(rest, 0, u64::MAX)?;
     let rest = word(rest, b"; }\n")?;
-    Ok((KeyLookup { table, code }, rest))
+    Ok((LookUp { table, code }, rest))
 }
 
 /// Reads `begin 0 T C NO EXT BUDGET stay ARGS`.

@@ -1,7 +1,8 @@
 //! One turn of a live call.
 
 ghost use Rattle.std.specs.Prelude.{◌≡◌, ◌≢◌, ◌≤◌, ◌<◌, ◌+◌, [], length, IfOk};
-ghost use Rattle.ext_mean.specs.KeyLookups.{mean};
+ghost use Rattle.std.specs.Arc.{arc_value};
+ghost use Rattle.ext_mean.specs.Meaning.{mean};
 ghost use Rattle.ext_mean.specs.Outcomes.{EndsWith, wanted_by};
 ghost use Rattle.ext_mean.specs.Views.{part};
 ghost use Rattle.book.specs.GrantsList.{rights_of};
@@ -12,10 +13,12 @@ ghost use Rattle.splinter.specs.Stepping.{StepIs, StaysLive};
 use crate::evaluator::evaluate;
 use crate::line::{Line, Said};
 use crate::live::Live;
+use crate::look_up::Extension;
 use book::{Book, Commit, Finished, Read};
-use ext_mean::{KeyLookup, Run};
+use ext_mean::Run;
 use sp_base::{Key, Memory, Outcome, TableId, Writes};
 use std::alloc::Global;
+use std::sync::Arc;
 
 /// The units of one turn of the drain.
 pub const QUANTUM: u32 = 10_000;
@@ -30,64 +33,82 @@ pub enum Step {
 }
 
 /// Gives a live call one turn: its meaning with one quantum more than it has spent decides.
-pub fn turn(alloc: Global, book: &mut Book, program: &KeyLookup, live: Live) -> Result<Step, Memory>
-    requires { IsLive program.now book.old live }
+pub fn turn(
+    alloc: Global,
+    book: &mut Book,
+    extension: &Extension,
+    live: Live,
+) -> Result<Step, Memory>
+    requires { IsLive (arc_value extension.now.program) book.old live }
     ensures turn { IfOk result (λ step. StepIs step
-        (turn_of program.now (rights_of book.old.grants live.call.caller.tenant) book.old live) book.old book.new) }
-    ensures live { IfOk result (λ step. StaysLive step program.now book.new live) }
+        (turn_of (arc_value extension.now.program) (rights_of book.old.grants live.call.caller.tenant) book.old live) book.old book.new) }
+    ensures live { IfOk result (λ step. StaysLive step (arc_value extension.now.program) book.new live) }
 {
-    let run = meaning_now(alloc, book, program, &live)?;
+    let run = meaning_now(alloc, book, extension, &live)?;
     match run {
-        Run::Wants { table, key, used } => read(book, program, live, table, key, used),
+        Run::Wants { table, key, used } => read(book, extension, live, table, key, used),
         Run::Spent => {
             if live.spent + QUANTUM < live.call.budget {
                 return Ok(go_on(live));
             }
-            end(book, program, live, Outcome::Killed, Writes::new(alloc))
+            end(book, extension, live, Outcome::Killed, Writes::new(alloc))
         }
         Run::Trapped { trap, .. } => {
             let outcome = Outcome::Trapped(trap);
-            end(book, program, live, outcome, Writes::new(alloc))
+            end(book, extension, live, outcome, Writes::new(alloc))
         }
         Run::Done { reply, writes, .. } => {
-            end(book, program, live, Outcome::Done(reply), writes)
+            end(book, extension, live, Outcome::Done(reply), writes)
         }
     }
 }
 
 /// The meaning of a call with one quantum more than it has spent, on the records that it has read.
-fn meaning_now(alloc: Global, book: &Book, program: &KeyLookup, live: &Live) -> Result<Run, Memory>
-    requires { IsLive program.now book.now live.now }
-    ensures { IfOk result (λ run. run ≡ meaning_of_turn program.now
+fn meaning_now(
+    alloc: Global,
+    book: &Book,
+    extension: &Extension,
+    live: &Live,
+) -> Result<Run, Memory>
+    requires { IsLive (arc_value extension.now.program) book.now live.now }
+    ensures { IfOk result (λ run. run ≡ meaning_of_turn (arc_value extension.now.program)
         (rights_of book.now.grants live.now.call.caller.tenant) live.now) }
 {
     let units = live.call.budget.min(live.spent + QUANTUM);
     let rights = book.rights(live.call.caller.tenant)?;
     let args = live.call.args.bytes();
-    evaluate(alloc, program, args, units, &rights, live.reads.as_slice())
+    evaluate(
+        alloc,
+        extension,
+        args,
+        units,
+        &rights,
+        live.reads.as_slice(),
+    )
 }
 
 /// The call ends by the verdict on its entry.
 fn end(
     book: &mut Book,
-    program: &KeyLookup,
+    extension: &Extension,
     live: Live,
     outcome: Outcome,
     writes: Writes,
 ) -> Result<Step, Memory>
-    requires live { IsLive program.now book.old live }
-    requires meant { EndsWith (mean program.now live.call.args live.call.budget
+    requires live { IsLive (arc_value extension.now.program) book.old live }
+    requires meant { EndsWith (mean (arc_value extension.now.program) live.call.args live.call.budget
         (part live.reads (rights_of book.old.grants live.call.caller.tenant))) outcome writes }
     ensures turn { IfOk result (λ step. StepIs step (ended book.old live outcome writes) book.old book.new) }
-    ensures live { IfOk result (λ step. StaysLive step program.now book.new live) }
+    ensures live { IfOk result (λ step. StaysLive step (arc_value extension.now.program) book.new live) }
 {
     let rights = book.rights(live.call.caller.tenant)?;
+    let program = Arc::try_clone(&extension.program)?;
     let Live { call, reads, .. } = live;
     let caller = call.caller;
     let number = call.number;
     let done = Finished {
         call,
-        program: *program,
+        program,
         rights,
         reads,
         outcome,
@@ -129,21 +150,21 @@ fn said(commit: Commit) -> Result<Said, Memory>
 /// The wanted record joins the reads.
 fn read(
     book: &Book,
-    program: &KeyLookup,
+    extension: &Extension,
     live: Live,
     table: TableId,
     key: Key,
     used: u32,
 ) -> Result<Step, Memory>
-    requires live { IsLive program.now book.now live }
+    requires live { IsLive (arc_value extension.now.program) book.now live }
     requires within { used ≤ live.call.budget }
     requires nothing { live.reads ≡ [] }
-    requires wanted { wanted_by (mean program.now live.call.args live.call.budget
+    requires wanted { wanted_by (mean (arc_value extension.now.program) live.call.args live.call.budget
         (part live.reads (rights_of book.now.grants live.call.caller.tenant)))
         ≡ Some (record { table = table.0; key = key }) }
     ensures turn { IfOk result (λ step. StepIs step
         (turned book.now live (Run.Wants table key used)) book.now book.now) }
-    ensures live { IfOk result (λ step. StaysLive step program.now book.now live) }
+    ensures live { IfOk result (λ step. StaysLive step (arc_value extension.now.program) book.now live) }
 {
     let item = match book.read(live.call.caller.tenant, table, &key) {
         Read::Found(item) => item,

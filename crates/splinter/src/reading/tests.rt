@@ -49,8 +49,8 @@ fn the_ordinary_script_is_read(rt: HostRuntime) -> Result<(), Fail> {
     assert_eq!(rt; script.put_table.0, 5);
     assert_eq!(rt; script.put_key.bytes(), b"k".as_slice());
     assert_eq!(rt; script.put_value.bytes(), b"v1".as_slice());
-    assert_eq!(rt; script.program.table, 5);
-    assert_eq!(rt; script.program.code, 0);
+    assert_eq!(rt; script.look_up.table, 5);
+    assert_eq!(rt; script.look_up.code, 0);
     Ok(())
 }
 

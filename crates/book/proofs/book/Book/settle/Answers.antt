@@ -1,5 +1,6 @@
 -- The journal with the run's entry is sound.
 use Rattle.std.proofs.Common.{rules}
+use Rattle.std.specs.Arc.{arc_value}
 use Rattle.book.proofs.Growing.{sound-grown}
 use Rattle.book.proofs.Committing.{run-fits, run-legal, run-within}
 use Rattle.book.proofs.book.Book.settle.Goals as goal
@@ -7,7 +8,7 @@ use Rattle.book.proofs.book.Book.settle.Goals as goal
 pub entry_size-size-requires : goal.entry_size-size-requires
 entry_size-size-requires c =
     rw c.without_values.ensures
-    (run-fits c.args.done.program c.args.done.call.args c.args.done.call.budget c.args.done.reads c.args.done.rights
+    (run-fits (arc_value c.args.done.program) c.args.done.call.args c.args.done.call.budget c.args.done.reads c.args.done.rights
     c.args.done.outcome c.args.done.writes c.requires.arguments c.args.done.few c.args.done.meant)
 
 pub append-requires-clause-sound : goal.append-requires-clause-sound
@@ -16,12 +17,12 @@ append-requires-clause-sound c =
     let book = c.args.self.now in
     sound-grown _ _ c.journal.ensures.sound (search rules)
     (rw c.without_values.ensures
-    (run-fits done.program done.call.args done.call.budget done.reads done.rights done.outcome done.writes
+    (run-fits (arc_value done.program) done.call.args done.call.budget done.reads done.rights done.outcome done.writes
     c.requires.arguments done.few done.meant))
     (rw c.without_values.ensures
-    (run-legal book.grants book.journal done.call done.program done.reads done.rights done.outcome done.writes
+    (run-legal book.grants book.journal done.call (arc_value done.program) done.reads done.rights done.outcome done.writes
     c.requires.rights c.requires.named c.requires.held c.requires.still done.asked done.meant))
     c.requires.in_order
     (rw c.without_values.ensures
-    (run-within book.grants done.call done.program done.reads done.rights done.outcome done.writes
+    (run-within book.grants done.call (arc_value done.program) done.reads done.rights done.outcome done.writes
     c.requires.rights done.asked done.meant))
