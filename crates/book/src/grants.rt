@@ -1,4 +1,5 @@
-ghost use Rattle.std.specs.Prelude.{◌≡◌, ◌≢◌, ◌<◌, ◌^◌, IfOk, []};
+ghost use Rattle.std.specs.Prelude.{◌≡◌, IfOk, [], unwrap_or};
+ghost use Rattle.std.specs.Option.{option_copied};
 ghost use Rattle.sp_base.specs.RightsList.{level_of};
 ghost use Rattle.book.specs.GrantsList.{AreGrants, rights_of};
 
@@ -39,23 +40,31 @@ impl Grants {
     pub fn level(&self, tenant: TenantId, table: TableId) -> Level
         ensures { result ≡ level_of (rights_of self.now tenant) table.0 }
     {
-        for (number, rights) in &self.list {
-            if *number == tenant {
-                return rights.level(u64::from(table.0));
-            }
+        match self.granted(tenant) {
+            Some(rights) => rights.level(u64::from(table.0)),
+            None => Level::Nothing,
         }
-        Level::Nothing
     }
 
     /// A tenant's rights: none for an unknown tenant.
     pub fn rights(&self, alloc: Global, tenant: TenantId) -> Result<Rights, Memory>
         ensures { IfOk result (λ rights. rights ≡ rights_of self.now tenant) }
     {
+        match self.granted(tenant) {
+            Some(rights) => rights.share(alloc),
+            None => Ok(Rights::of(Vec::new(alloc))),
+        }
+    }
+
+    /// The rights of a known tenant.
+    fn granted(&self, tenant: TenantId) -> Option<&Rights>
+        ensures { unwrap_or (option_copied result) [] ≡ rights_of self.now tenant }
+    {
         for (number, rights) in &self.list {
             if *number == tenant {
-                return rights.share(alloc);
+                return Some(rights);
             }
         }
-        Ok(Rights::of(Vec::new(alloc)))
+        None
     }
 }

@@ -22,5 +22,4 @@ pub mod Numerals
 pub mod PlainTexts
 pub mod Bounding
 pub mod LookupSpelled
-pub mod KeyLookupProofs
 pub mod CanonicalForms

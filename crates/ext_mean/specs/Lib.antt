@@ -20,8 +20,6 @@ pub mod Laws
 pub mod Asked
 pub mod Confinement
 pub mod Examples
-pub mod KeyLookups
-pub mod KeyLookupLaws
 pub mod Items
 pub mod Types
 pub mod TypesOfItems

@@ -6,8 +6,6 @@ mod check_codes;
 mod codes;
 mod examples;
 mod expr;
-mod key_lookup;
-mod key_lookup_laws;
 mod laws;
 mod lookup;
 mod name;
@@ -23,11 +21,6 @@ pub use check_codes::{BorrowCode, TypeCode};
 pub use codes::SyntaxCode;
 pub use examples::worked_examples;
 pub use expr::{BinOp, Expr};
-pub use key_lookup::KeyLookup;
-pub use key_lookup_laws::{
-    a_look_up_means_its_tree, greater_budgets_look_up_the_same, known_records_decide_look_ups,
-    look_ups_are_within_limits, look_ups_change_only_writable, look_ups_want_only_readable,
-};
 pub use laws::{
     a_wanted_read_joins, greater_budgets_mean_the_same, known_records_cost, known_records_decide,
     loops_unroll, only_readable_is_wanted, only_writable_is_changed, reads_cost,
