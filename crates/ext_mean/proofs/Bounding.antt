@@ -1,10 +1,10 @@
 -- The bounds on the tokens of a text, by one walk over its slots.
-use Rattle.std.specs.Prelude.{IsTrue, ◌&&◌, nat_le, nat_lt}
-use Rattle.std.proofs.Common.{◌≡◌, ◌⊎◌, inl, inr, ℕ, ◌+◌, ◌^◌, ◌<◌, ◌≤◌, Bool, true, false, List, [], ◌∷◌, ◌++◌, length, refl, sym, ap, ◌∙◌, subst, arith, append_assoc, append-nil}
-use Rattle.std.proofs.lemmas.Bool.{leb-true, ltb-true}
+use Rattle.std.specs.Prelude.{◌&&◌, nat_lt}
+use Rattle.std.proofs.Common.{◌≡◌, inl, inr, ℕ, ◌^◌, ◌<◌, ◌≤◌, Bool, true, List, [], ◌∷◌, ◌++◌, length, refl, sym, ap, ◌∙◌, subst, arith, append_assoc, append-nil}
+use Rattle.std.proofs.lemmas.Bool.{ltb-true}
 use Rattle.ext_mean.specs.declared.token.Token.{Token}
 use Rattle.ext_mean.specs.declared.token.Token.TheVariants as token
-use Rattle.ext_mean.specs.Bounds.{IsTooLong, IsTooDeep, IsTooMany, IsBounded, AreBounded, is_opening, open_with, open_behind, functions_with, functions_behind, locals_with, locals_behind, operators_at}
+use Rattle.ext_mean.specs.Bounds.{IsTooLong, IsBounded, AreBounded, open_with, open_behind, functions_with, functions_behind, locals_with, locals_behind, operators_at}
 use Rattle.ext_mean.specs.Wording.{Slot, slot_tokens}
 use Rattle.ext_mean.proofs.Pieces.{and-both}
 

@@ -15,7 +15,7 @@ use Rattle.ext_mean.specs.declared.state.Value.{Value}
 use Rattle.ext_mean.specs.declared.tree.Function.{Function}
 use Rattle.ext_mean.specs.declared.tree.Param.{Param}
 use Rattle.ext_mean.specs.declared.tree.Program.{Program}
-use Rattle.ext_mean.specs.Confinement.{OnlyReadableIsWanted, OnlyWritableIsChanged, IsWithinLimits, RunsAreWithinLimits}
+use Rattle.ext_mean.specs.Confinement.{OnlyReadableIsWanted, OnlyWritableIsChanged, IsWithinLimits, PlacesAreChangedOnce, RunsAreWithinLimits}
 use Rattle.ext_mean.specs.Laws.{IsDue}
 use Rattle.ext_mean.specs.MeaningValues.{nothing, number_of, bound}
 use Rattle.ext_mean.specs.MeaningStatements.{Calls, run_block}
@@ -28,6 +28,7 @@ use Rattle.ext_mean.proofs.Keeping as keeping
 use Rattle.ext_mean.proofs.Keeping.{IsAllowed, Holds, LocalHolds, Keeps, StepKeeps, RunKeeps, replied}
 use Rattle.ext_mean.proofs.KeepingStatements as statements
 use Rattle.ext_mean.proofs.KeepingStatements.{Returns, CallsKeep}
+use Rattle.ext_mean.proofs.Places.{none-distinct}
 use Rattle.ext_mean.proofs.LawsProved.{world_of, run_of, mean-ended}
 use Rattle.ext_mean.proofs.WantsProved.{are-due}
 
@@ -51,12 +52,12 @@ module _ (world : World) where
   called-kept calls kept function values all state keeps =
       let inside : State = record state { locals = bound function.params values } in
       let inside-keeps : Keeps rights inside =
-      record { reply = keeps.reply; few = keeps.few; writes = keeps.writes; locals = bound-holds rights function.params values all } in
+      record { reply = keeps.reply; few = keeps.few; writes = keeps.writes; distinct = keeps.distinct; locals = bound-holds rights function.params values all } in
       keeping.behind-kept rights (Returns rights) (Holds rights) (run_block world calls function.body inside) _
       (statements.run_block-kept world calls kept function.body inside inside-keeps)
       (λ result holds later keeps'.
       let outside : Keeps rights (record later { locals = state.locals }) =
-      record { reply = keeps'.reply; few = keeps'.few; writes = keeps'.writes; locals = keeps.locals } in
+      record { reply = keeps'.reply; few = keeps'.few; writes = keeps'.writes; distinct = keeps'.distinct; locals = keeps.locals } in
       record { fact = (outside, result-holds rights result holds) })
 
   run-kept : (calls : Calls) → CallsKeep world calls → (function : Option Function) (values : List Value) → AllByRecursion (Holds rights) values → Valued (run_function world calls function values)
@@ -102,11 +103,11 @@ ended-keeps granted (Next result state) kept =
       keys = all-keyed granted state.writes keeps.writes;
       values = all-fit granted state.writes keeps.writes;
     } in
-    record { limits = limits; writable = all-writable granted state.writes keeps.writes }
+    record { limits = limits; writable = all-writable granted state.writes keeps.writes; distinct = keeps.distinct }
 ended-keeps granted (Ends run) kept = kept.fact
 
 start-keeps : (rights : List (TableId × Level)) → Keeps rights start
-start-keeps rights = record { reply = omega arith; few = omega arith; writes = tt; locals = tt }
+start-keeps rights = record { reply = omega arith; few = omega arith; writes = tt; distinct = none-distinct; locals = tt }
 
 mean-keeps : (program : Program) (args : List ℕ) (budget : ℕ) (view : View) → RunKeeps view.rights (mean program args budget view)
 mean-keeps program args budget view =
@@ -116,6 +117,9 @@ mean-keeps program args budget view =
 
 pub only-writable : OnlyWritableIsChanged
 only-writable program args budget view = (mean-keeps program args budget view).writable
+
+pub changed-once : PlacesAreChangedOnce
+changed-once program args budget view = (mean-keeps program args budget view).distinct
 
 pub within-limits : RunsAreWithinLimits
 within-limits program args budget view = (mean-keeps program args budget view).limits

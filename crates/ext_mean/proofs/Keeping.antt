@@ -1,6 +1,6 @@
 -- What a run keeps, from each piece of its work to the next: its limits, and its rights.
 use Rattle.std.specs.Prelude.{IsTrue}
-use Rattle.std.specs.List.{AllByRecursion}
+use Rattle.std.specs.List.{AllByRecursion, IsDistinct}
 use Rattle.std.proofs.Common.{◌≡◌, ℕ, ◌+◌, ◌≤◌, Bool, true, false, List, [], ◌∷◌, length, map, Option, Some, None, refl, subst, arith, if◌then◌else◌, nat_le}
 use Rattle.sp_base.specs.declared.numbers.TableId.{TableId}
 use Rattle.sp_base.specs.declared.outcomes.Outcome.{Outcome}
@@ -10,7 +10,7 @@ use Rattle.sp_base.specs.declared.rights.Level.{Level}
 use Rattle.sp_base.specs.declared.writes.Change.TheVariants.{Put}
 use Rattle.sp_base.specs.declared.writes.Write.{Write}
 use Rattle.sp_base.specs.Limits.{IsKey}
-use Rattle.sp_base.specs.Places.{Place}
+use Rattle.sp_base.specs.Places.{Place, same_place}
 use Rattle.sp_base.specs.RightsList.{can_write}
 use Rattle.ext_mean.specs.declared.run.Run.{Run}
 use Rattle.ext_mean.specs.declared.run.Run.TheVariants.{Trapped, Spent, Wants}
@@ -19,8 +19,10 @@ use Rattle.ext_mean.specs.declared.state.State.{State}
 use Rattle.ext_mean.specs.declared.state.Value.{Value}
 use Rattle.ext_mean.specs.declared.state.Value.TheVariants as value
 use Rattle.ext_mean.specs.Confinement.{IsWithinLimits}
+use Rattle.ext_mean.specs.MeaningValues.{place_changed}
 use Rattle.ext_mean.specs.Outcomes.{changes_of, ReplyFits, ChangeFits}
 use Rattle.ext_mean.specs.Work.{World, Step, Next, Ends, Work, after, ◌>>=◌, give, charge, require, known_or_wanted, in_order}
+use Rattle.ext_mean.proofs.Places.{none-distinct}
 
 -- a change that the rights and the limits allow
 pub record IsAllowed (rights : List (TableId × Level)) (write : Write) : Type 0 where
@@ -45,12 +47,14 @@ pub record Keeps (rights : List (TableId × Level)) (state : State) : Type 0 whe
   pub reply : length state.reply ≤ 4096
   pub few : length state.writes ≤ 64
   pub writes : AllByRecursion (IsAllowed rights) state.writes
+  pub distinct : IsDistinct same_place (map place_changed state.writes)
   pub locals : AllByRecursion (LocalHolds rights) state.locals
 
 -- a run that ended or wants something is within them
 pub record RunKeeps (rights : List (TableId × Level)) (run : Run) : Type 0 where
   pub limits : IsWithinLimits run
   pub writable : AllByRecursion (λ write. IsTrue (can_write rights write.table.0)) (changes_of run)
+  pub distinct : IsDistinct same_place (map place_changed (changes_of run))
 
 -- a step keeps to them, and hands on a value of which this holds
 abbrev StepFact : {A : Type 0} → List (TableId × Level) → (A → Type 0) → Step A → Type 0
@@ -86,19 +90,19 @@ module _ (rights : List (TableId × Level)) where
   trapped Q trap used =
       let limits : IsWithinLimits (Trapped trap used) =
       record { reply = λ reached e. subst Fits e tt; few = omega arith; keys = tt; values = tt } in
-      record { fact = record { limits = limits; writable = tt } }
+      record { fact = record { limits = limits; writable = tt; distinct = none-distinct } }
 
   pub spent : {A : Type 0} (Q : A → Type 0) → StepKeeps rights Q (Ends Spent)
   spent Q =
       let limits : IsWithinLimits Spent =
       record { reply = λ reached e. subst Fits e tt; few = omega arith; keys = tt; values = tt } in
-      record { fact = record { limits = limits; writable = tt } }
+      record { fact = record { limits = limits; writable = tt; distinct = none-distinct } }
 
   pub wanting : {A : Type 0} (Q : A → Type 0) (table : TableId) (key : List ℕ) (used : ℕ) → StepKeeps rights Q (Ends (Wants table key used))
   wanting Q table key used =
       let limits : IsWithinLimits (Wants table key used) =
       record { reply = λ reached e. subst Fits e tt; few = omega arith; keys = tt; values = tt } in
-      record { fact = record { limits = limits; writable = tt } }
+      record { fact = record { limits = limits; writable = tt; distinct = none-distinct } }
 
   -- what stands behind a step that keeps to them
   pub behind-kept : {A B : Type 0} (P : A → Type 0) (Q : B → Type 0) (step : Step A) (more : A → Work B)
@@ -119,7 +123,7 @@ module _ (rights : List (TableId × Level)) where
   -- the units used are not among what is kept
   pub same-but-units : (state : State) (used : ℕ) → Keeps rights state → Keeps rights (record state { used = used })
   same-but-units state used keeps =
-      record { reply = keeps.reply; few = keeps.few; writes = keeps.writes; locals = keeps.locals }
+      record { reply = keeps.reply; few = keeps.few; writes = keeps.writes; distinct = keeps.distinct; locals = keeps.locals }
 
   charge-cases : {B : Type 0} {Q : B → Type 0} (fits : Bool) (units : ℕ) (state : State) (work : Work B)
       → Keeps rights state → Kept Q work

@@ -35,6 +35,7 @@ use Rattle.ext_mean.proofs.Keeping as keeping
 use Rattle.ext_mean.proofs.Keeping.{IsAllowed, Holds, LocalHolds, Keeps, StepKeeps, Any}
 use Rattle.ext_mean.proofs.KeepingExpressions as values
 use Rattle.ext_mean.proofs.Pieces.{and-both}
+use Rattle.ext_mean.proofs.Places.{changed-distinct}
 use Rattle.ext_mean.proofs.WantsProved.{key-tested}
 
 -- lists, each item of which is within the rights and the limits
@@ -159,7 +160,7 @@ module _ (world : World) where
   locals-kept : {A : Type 0} (Q : A → Type 0) (value : A) (state : State) (locals : List Local) → Keeps rights state → AllByRecursion (LocalHolds rights) locals → Q value → StepKeeps rights Q (Next value (record state { locals = locals }))
   locals-kept Q value state locals keeps all holds =
       let after : Keeps rights (record state { locals = locals }) =
-      record { reply = keeps.reply; few = keeps.few; writes = keeps.writes; locals = all } in
+      record { reply = keeps.reply; few = keeps.few; writes = keeps.writes; distinct = keeps.distinct; locals = all } in
       record { fact = (after, holds) }
 
   declare-kept : (name : List ℕ) (value : Value) → Holds rights value → Done (meaning.declare name value)
@@ -223,7 +224,7 @@ module _ (world : World) where
       → StepKeeps rights Any (after (require test Size state) (λ _ later. Next (tt {0}) (record state { writes = changed new state.writes })))
   write-cases true new state keeps allowed few =
       let after : Keeps rights (record state { writes = changed new state.writes }) =
-      record { reply = keeps.reply; few = few refl; writes = changed-allowed rights new state.writes allowed keeps.writes; locals = keeps.locals } in
+      record { reply = keeps.reply; few = few refl; writes = changed-allowed rights new state.writes allowed keeps.writes; distinct = changed-distinct new state.writes keeps.distinct; locals = keeps.locals } in
       record { fact = (after, tt) }
   write-cases false new state keeps allowed few = keeping.trapped rights Any Size state.used
 
@@ -253,7 +254,7 @@ module _ (world : World) where
       let many = length-append state.reply bytes in
       let room = fits refl in
       let after : Keeps rights (record state { reply = state.reply ++ bytes }) =
-      record { reply = omega (arith, many, room); few = keeps.few; writes = keeps.writes; locals = keeps.locals } in
+      record { reply = omega (arith, many, room); few = keeps.few; writes = keeps.writes; distinct = keeps.distinct; locals = keeps.locals } in
       record { fact = (after, tt) }
   resp-cases false bytes state keeps fits = keeping.trapped rights Any Size state.used
 

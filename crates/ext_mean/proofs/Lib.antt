@@ -13,6 +13,7 @@ pub mod ExamplesProved
 pub mod AskedProved
 pub mod KnownProved
 pub mod LoopsProved
+pub mod Places
 pub mod Keeping
 pub mod KeepingExpressions
 pub mod KeepingStatements

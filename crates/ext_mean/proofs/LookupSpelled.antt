@@ -1,5 +1,5 @@
 -- The text of a look-up spells its tree.
-use Rattle.std.specs.Prelude.{IsTrue, codes}
+use Rattle.std.specs.Prelude.{codes}
 use Rattle.std.specs.Fmt.{decimal}
 use Rattle.std.proofs.Common.{◌≡◌, ℕ, ◌+◌, ◌^◌, ◌<◌, ◌≤◌, Bool, true, false, List, [], ◌∷◌, ◌++◌, length, length-append, append_assoc, lit<, lit≤, refl, sym, ◌∙◌, subst, arith}
 use Rattle.std.proofs.lemmas.Fmt.{length-decimal-le}
@@ -8,7 +8,6 @@ use Rattle.std.specs.Str.{bytes_eq}
 use Rattle.ext_mean.specs.declared.statement.Kind.TheVariants as kind
 use Rattle.ext_mean.specs.declared.token.Mark.TheVariants as mark
 use Rattle.ext_mean.specs.declared.token.Placed.{Placed}
-use Rattle.ext_mean.specs.declared.token.Token.{Token}
 use Rattle.ext_mean.specs.declared.token.Token.TheVariants as token
 use Rattle.ext_mean.specs.declared.token.Word.{Word}
 use Rattle.ext_mean.specs.declared.token.Word.TheVariants as word
@@ -17,9 +16,9 @@ use Rattle.ext_mean.specs.Derived.{program_tree}
 use Rattle.ext_mean.specs.Grammar.{Disjunction, disjunction, end_or, conjunction, end_and, only, sum, end_sum, product, end_product, plain, Primary, number, variable, args, Braces, open_end, returning, end_statements, statement, arms, no_parameters, function, end_functions, Whole, program}
 use Rattle.ext_mean.specs.Grammar as grammar
 use Rattle.ext_mean.specs.Lookup.{LookupIsSpelled, lookup_program, lookup_text}
-use Rattle.ext_mean.specs.Text.{Reading, item_lines, most_text}
-use Rattle.ext_mean.specs.Tokens.{letters, IsName, Tokens, tokens_of, IsGap, blank, empty}
-use Rattle.ext_mean.specs.Wording.{program_slots, program_tokens}
+use Rattle.ext_mean.specs.Text.{Reading, item_lines}
+use Rattle.ext_mean.specs.Tokens.{letters, IsName, Tokens, blank, empty}
+use Rattle.ext_mean.specs.Wording.{program_slots}
 use Rattle.ext_mean.proofs.Bounding.{bounded-by}
 use Rattle.ext_mean.proofs.PlainTexts.{Piece, piece, ArePlain, text_from, placed_by, on_line, plain-tokens, number-tokens}
 

@@ -1,12 +1,12 @@
 -- Texts of one line, by their tokens: each behind one space or none.
-use Rattle.std.specs.Prelude.{IsTrue, not, ◌&&◌, ◌||◌, ◌==◌, nat_le}
+use Rattle.std.specs.Prelude.{not, ◌&&◌, ◌==◌, nat_le}
 use Rattle.std.specs.Fmt.{decimal}
-use Rattle.std.proofs.Common.{◌≡◌, ℕ, ◌+◌, ◌^◌, ◌<◌, ◌≤◌, Bool, true, false, List, [], ◌∷◌, ◌++◌, length, refl, sym, subst, arith, if◌then◌else◌}
+use Rattle.std.proofs.Common.{◌≡◌, ℕ, ◌+◌, ◌^◌, ◌<◌, ◌≤◌, Bool, true, false, List, [], ◌∷◌, ◌++◌, length, refl, if◌then◌else◌}
 use Rattle.std.proofs.lemmas.Bool.{leb-true}
 use Rattle.ext_mean.specs.declared.token.Placed.{Placed}
 use Rattle.ext_mean.specs.declared.token.Token.{Token}
 use Rattle.ext_mean.specs.declared.token.Token.TheVariants as token
-use Rattle.ext_mean.specs.Tokens.{letters, mark_bytes, is_name_byte, is_numeral, all_pass, begins_word, digits_from, newlines, IsName, IsSpelling, StandsApart, BeginsWith, IsGap, empty, blank, Tokens}
+use Rattle.ext_mean.specs.Tokens.{letters, mark_bytes, is_name_byte, begins_word, newlines, IsName, IsSpelling, StandsApart, BeginsWith, IsGap, empty, blank, Tokens}
 use Rattle.ext_mean.proofs.Numerals.{Spelled, decimal-spelled}
 use Rattle.ext_mean.proofs.Pieces.{and-both}
 use Rattle.ext_mean.proofs.TokenEnds.{room, word-first, numeral-named, word-longest, symbol-longest}

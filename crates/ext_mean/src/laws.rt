@@ -1,4 +1,4 @@
-ghost use Rattle.ext_mean.specs.Confinement.{OnlyReadableIsWanted, OnlyWritableIsChanged, RunsAreWithinLimits};
+ghost use Rattle.ext_mean.specs.Confinement.{OnlyReadableIsWanted, OnlyWritableIsChanged, PlacesAreChangedOnce, RunsAreWithinLimits};
 ghost use Rattle.ext_mean.specs.Loops.{LoopsUnroll};
 ghost use Rattle.ext_mean.specs.Laws.{GreaterBudgetsMeanTheSame, KnownRecordsDecide, RunsStayWithinBudgets, WantsAreDue, WantsCost, WantsPersist};
 ghost use Rattle.ext_mean.specs.Asked.{KnownRecordsCost, ReadsCost, WantedReadJoins};
@@ -66,4 +66,9 @@ pub fn only_writable_is_changed()
 /// A run answers and changes no more than the limits allow.
 pub fn runs_are_within_limits()
     ensures { RunsAreWithinLimits }
+{}
+
+/// A run changes each place at most once.
+pub fn places_are_changed_once()
+    ensures { PlacesAreChangedOnce }
 {}
