@@ -1,0 +1,4 @@
+pub mod BorrowCounts
+pub mod FaultLines
+pub mod ItemLines
+pub mod TypeCounts

@@ -1,0 +1,38 @@
+ghost use Rattle.std.specs.Prelude.{◌≡◌};
+ghost use Rattle.ext_parse.specs.declared.fault.ParseFault.TheVariants as fault;
+
+use ext_mean::SyntaxCode;
+use sp_base::Memory;
+use std::alloc::{AllocError, AllocFailed};
+
+/// Why a text gave no tree.
+#[derive(Clone, Copy, Debug, PartialEq, Eq)]
+pub enum ParseFault {
+    /// The text spells no program: its first fault, on this line, counted from 1.
+    Syntax { line: u32, code: SyntaxCode },
+    Memory,
+}
+
+impl From<Memory> for ParseFault {
+    ghost from_gives = { λ _ e. e ≡ fault.Memory };
+
+    fn from(_: Memory) -> ParseFault {
+        ParseFault::Memory
+    }
+}
+
+impl From<AllocError> for ParseFault {
+    ghost from_gives = { λ _ e. e ≡ fault.Memory };
+
+    fn from(_: AllocError) -> ParseFault {
+        ParseFault::Memory
+    }
+}
+
+impl<T: Drop> From<AllocFailed<T>> for ParseFault {
+    ghost from_gives = { λ _ e. e ≡ fault.Memory };
+
+    fn from(_: AllocFailed<T>) -> ParseFault {
+        ParseFault::Memory
+    }
+}
