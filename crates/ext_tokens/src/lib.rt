@@ -1,0 +1,7 @@
+//! The tokens of an extension's text: each with its line, up to the end of the text or to the first
+//! place that is faulty whatever the grammar says.
+#![tactic(auto)]
+
+mod bytes;
+mod symbols;
+mod words;
