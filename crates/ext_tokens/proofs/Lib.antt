@@ -1,0 +1,5 @@
+pub mod Fronts
+pub mod Spellings
+pub mod Items
+pub mod Begins
+pub mod Gaps

@@ -1,2 +1,5 @@
 pub mod Words
 pub mod Symbols
+pub mod Lexemes
+pub mod Strings
+pub mod Gaps
