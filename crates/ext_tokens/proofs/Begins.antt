@@ -12,9 +12,11 @@ use Rattle.ext_mean.specs.declared.token.Token.TheVariants as token
 use Rattle.ext_mean.specs.declared.token.Word.{Word}
 use Rattle.ext_mean.specs.Tokens.{letters, has_name_form, is_name_byte, is_lower, is_digit, is_numeral, is_word_byte, begins_word, all_pass, IsName, IsInner, IsSpelling, StandsApart, BeginsWith, digits_from}
 use Rattle.ext_tokens.specs.Words.{word_among}
-use Rattle.ext_tokens.specs.Symbols.{symbol_of, double_symbol, single_symbol}
+use Rattle.ext_tokens.specs.Symbols.{symbol_of, double_symbol, single_symbol, NoDouble}
 use Rattle.ext_tokens.specs.Strings.{BeginsByItem}
-use Rattle.ext_tokens.specs.Lexemes.{Class, of_word, of_number, of_string, of_symbol, class_of, byte_class, front_class, BeginsBy, BeginsByNone}
+use Rattle.ext_tokens.specs.declared.lexeme.Class.{Class}
+use Rattle.ext_tokens.specs.declared.lexeme.Class.TheVariants as kind
+use Rattle.ext_tokens.specs.Lexemes.{class_of, byte_class, front_class, BeginsBy, BeginsByNone}
 use Rattle.ext_tokens.specs.declared.words.TheConstants.{WORDS}
 use Rattle.ext_tokens.proofs.Fronts.{fronts-one, passing-within, passing-all, front-passes}
 use Rattle.ext_tokens.proofs.Spellings.{word-known, lower-name, name-bytes, spelling-front, word-form, number-form, string-form, symbol-form, numeral-digits, numeral-front}
@@ -29,7 +31,7 @@ class-same : (text : List ℕ) (which : Class) (bytes behind : List ℕ) (other 
     → IsSpelling bytes other → text ≡ bytes ++ behind → class_of other ≡ which
 class-same text which bytes behind other front spelled whole =
     let own : front_class text ≡ Some (class_of other) =
-        ap front_class whole ∙ front-longer bytes behind (class_of other) (spelling-front other bytes spelled) in
+    ap front_class whole ∙ front-longer bytes behind (class_of other) (spelling-front other bytes spelled) in
     cc
 
 -- nothing begins the empty text
@@ -42,16 +44,16 @@ empty-none bytes behind first begins = front-filled bytes behind (class_of first
 
 -- Words and names.
 
-tests-lower : (quote lower digit : Bool) → cond quote of_string (cond lower of_word (cond digit of_number of_symbol)) ≡ of_word → lower ≡ true
+tests-lower : (quote lower digit : Bool) → cond quote kind.Str (cond lower kind.Word (cond digit kind.Number kind.Symbol)) ≡ kind.Word → lower ≡ true
 tests-lower true lower digit class = absurd cc
 tests-lower false true digit class = refl
 tests-lower false false true class = absurd cc
 tests-lower false false false class = absurd cc
 
-class-lower : (byte : ℕ) → byte_class byte ≡ of_word → is_lower byte ≡ true
+class-lower : (byte : ℕ) → byte_class byte ≡ kind.Word → is_lower byte ≡ true
 class-lower byte class = tests-lower (byte == 0x22) (is_lower byte) (is_digit byte) class
 
-word-apart : (which : Token) (rest : List ℕ) → class_of which ≡ of_word → StandsApart which rest
+word-apart : (which : Token) (rest : List ℕ) → class_of which ≡ kind.Word → StandsApart which rest
 word-apart (token.Word word) rest is = tt
 word-apart (token.Name name) rest is = tt
 word-apart (token.Number number) rest is = absurd cc
@@ -60,14 +62,14 @@ word-apart (token.Mark mark) rest is = tt
 word-apart token.Not rest is = tt
 word-apart (token.Binary operator) rest is = tt
 
-pub word-begins : (text : List ℕ) (which : Token) → front_class text ≡ Some of_word → class_of which ≡ of_word
+pub word-begins : (text : List ℕ) (which : Token) → front_class text ≡ Some kind.Word → class_of which ≡ kind.Word
     → IsSpelling (take (prefix_len is_name_byte text) text) which
     → BeginsWith text (take (prefix_len is_name_byte text) text) which (drop (prefix_len is_name_byte text) text)
 word-begins text which front is spelled = record {
   spelled = spelled;
   whole = sym (take-append-drop (prefix_len is_name_byte text) text);
   longest = λ longer more other spelled' whole'.
-      let class = class-same text of_word longer more other front spelled' whole' in
+      let class = class-same text kind.Word longer more other front spelled' whole' in
       let form = word-form other longer class spelled' in
       let within = passing-within is_name_byte longer more (name-bytes longer form) in
       let size : length longer ≤ prefix_len is_name_byte text = rw whole' within in
@@ -76,7 +78,7 @@ word-begins text which front is spelled = record {
 }
 
 -- the name bytes at the front have the form of a name
-pub front-name : (text : List ℕ) → front_class text ≡ Some of_word → has_name_form (take (prefix_len is_name_byte text) text) ≡ true
+pub front-name : (text : List ℕ) → front_class text ≡ Some kind.Word → has_name_form (take (prefix_len is_name_byte text) text) ≡ true
 front-name [] front = absurd cc
 front-name (byte ∷ text) front =
     let lower : is_lower byte ≡ true = class-lower byte cc in
@@ -85,15 +87,15 @@ front-name (byte ∷ text) front =
 
 -- Numbers.
 
-pub number-begins : (text : List ℕ) → front_class text ≡ Some of_number
+pub number-begins : (text : List ℕ) → front_class text ≡ Some kind.Number
     → is_numeral (take (prefix_len is_digit text) text) ≡ true → begins_word (drop (prefix_len is_digit text) text) ≡ false
     → BeginsWith text (take (prefix_len is_digit text) text)
-        (token.Number (digits_from 0 (take (prefix_len is_digit text) text))) (drop (prefix_len is_digit text) text)
+    (token.Number (digits_from 0 (take (prefix_len is_digit text) text))) (drop (prefix_len is_digit text) text)
 number-begins text front numeral apart = record {
   spelled = (numeral, refl);
   whole = sym (take-append-drop (prefix_len is_digit text) text);
   longest = λ longer more other spelled whole.
-      let class = class-same text of_number longer more other front spelled whole in
+      let class = class-same text kind.Number longer more other front spelled whole in
       let form = number-form other longer class spelled in
       let within = passing-within is_digit longer more (numeral-digits longer form.0) in
       let size : length longer ≤ prefix_len is_digit text = rw whole within in
@@ -108,16 +110,16 @@ no-digit (byte ∷ text) apart =
     rw digit refl
 
 -- a number at the front is all the digits there
-pub number-none : (text : List ℕ) → front_class text ≡ Some of_number
+pub number-none : (text : List ℕ) → front_class text ≡ Some kind.Number
     → (is_numeral (take (prefix_len is_digit text) text) ≡ true → begins_word (drop (prefix_len is_digit text) text) ≡ false → ⊥)
     → BeginsByNone text
 number-none text front none bytes behind first begins =
-    let class = class-same text of_number bytes behind first front begins.spelled begins.whole in
+    let class = class-same text kind.Number bytes behind first front begins.spelled begins.whole in
     let form = number-form first bytes class begins.spelled in
     let Apart : Token → Type 0 = λ which. StandsApart which behind in
     let apart : begins_word behind ≡ false = subst Apart form.1 begins.apart in
     let size : prefix_len is_digit text ≡ length bytes =
-        ap (prefix_len is_digit) begins.whole ∙ passing-all is_digit bytes behind (numeral-digits bytes form.0) (no-digit behind apart) in
+    ap (prefix_len is_digit) begins.whole ∙ passing-all is_digit bytes behind (numeral-digits bytes form.0) (no-digit behind apart) in
     let bytes-is : take (prefix_len is_digit text) text ≡ bytes = rw (size, begins.whole) (take-append_seam bytes behind) in
     let behind-is : drop (prefix_len is_digit text) text ≡ behind = rw (size, begins.whole) (drop-append_seam bytes behind) in
     none (ap is_numeral bytes-is ∙ form.0) (ap begins_word behind-is ∙ apart)
@@ -137,7 +139,7 @@ string-begins text parsed items behind text-is inside = record {
   spelled = (parsed, inside, refl);
   whole = text-is ∙ ap (λ z. 0x22 ∷ z) (sym (append_assoc parsed (0x22 ∷ []) behind));
   longest = λ longer more other spelled whole.
-      let class = class-same text of_string longer more other (ap front_class text-is) spelled whole in
+      let class = class-same text kind.Str longer more other (ap front_class text-is) spelled whole in
       let form = string-form other longer class spelled in
       let tails = close-string form.1 form.0 longer more parsed behind form.2 form.3 (sym text-is ∙ whole) in
       let same = inner-one parsed form.1 items form.0 behind more inside form.2 tails in
@@ -157,14 +159,14 @@ pub string-none : (text parsed items rest : List ℕ) → text ≡ 0x22 ∷ (par
     → ((item : ℕ) (more : List ℕ) → BeginsByItem rest item more → ⊥) → ((more : List ℕ) → rest ≡ 0x22 ∷ more → ⊥)
     → BeginsByNone text
 string-none text parsed items rest text-is inside unread unclosed bytes behind first begins =
-    let class = class-same text of_string bytes behind first (ap front_class text-is) begins.spelled begins.whole in
+    let class = class-same text kind.Str bytes behind first (ap front_class text-is) begins.spelled begins.whole in
     let form = string-form first bytes class begins.spelled in
     let tails = open-string form.1 (parsed ++ rest) bytes behind form.3 (sym text-is ∙ begins.whole) in
     inner-unclosed parsed form.1 items form.0 rest behind inside form.2 tails unread unclosed
 
 -- Symbols.
 
-symbol-apart : (which : Token) (rest : List ℕ) → class_of which ≡ of_symbol → StandsApart which rest
+symbol-apart : (which : Token) (rest : List ℕ) → class_of which ≡ kind.Symbol → StandsApart which rest
 symbol-apart (token.Word word) rest is = tt
 symbol-apart (token.Name name) rest is = tt
 symbol-apart (token.Number number) rest is = absurd cc
@@ -179,22 +181,18 @@ short-symbol (a ∷ []) which is = omega arith
 short-symbol (a ∷ b ∷ []) which is = omega arith
 short-symbol (a ∷ b ∷ c ∷ bytes) which is = absurd cc
 
-pub double-begins : (first second : ℕ) (behind : List ℕ) (which : Token) → byte_class first ≡ of_symbol
+pub double-begins : (first second : ℕ) (behind : List ℕ) (which : Token) → byte_class first ≡ kind.Symbol
     → IsSpelling (first ∷ second ∷ []) which
     → BeginsWith (first ∷ second ∷ behind) (first ∷ second ∷ []) which behind
 double-begins first second behind which class spelled = record {
   spelled = spelled;
   whole = refl;
   longest = λ longer more other spelled' whole'.
-      let class' = class-same (first ∷ second ∷ behind) of_symbol longer more other (ap Some class) spelled' whole' in
+      let class' = class-same (first ∷ second ∷ behind) kind.Symbol longer more other (ap Some class) spelled' whole' in
       short-symbol longer other (symbol-form other longer class' spelled');
   apart = symbol-apart which behind
-      (class-same (first ∷ second ∷ behind) of_symbol (first ∷ second ∷ []) behind which (ap Some class) spelled refl);
+      (class-same (first ∷ second ∷ behind) kind.Symbol (first ∷ second ∷ []) behind which (ap Some class) spelled refl);
 }
-
--- no two bytes at the front are a symbol
-abbrev pub NoDouble : ℕ → List ℕ → Type 0
-NoDouble first rest = (second : ℕ) (behind : List ℕ) → rest ≡ second ∷ behind → double_symbol first second ≡ None
 
 single-longest : (first : ℕ) (rest longer more : List ℕ) (other : Token) → NoDouble first rest
     → symbol_of longer ≡ Some other → first ∷ rest ≡ longer ++ more → length longer ≤ 1
@@ -208,15 +206,15 @@ single-longest first rest (a ∷ b ∷ []) more other none is whole =
     absurd cc
 single-longest first rest (a ∷ b ∷ c ∷ longer) more other none is whole = absurd cc
 
-pub single-begins : (first : ℕ) (rest : List ℕ) (which : Token) → byte_class first ≡ of_symbol → NoDouble first rest
+pub single-begins : (first : ℕ) (rest : List ℕ) (which : Token) → byte_class first ≡ kind.Symbol → NoDouble first rest
     → IsSpelling (first ∷ []) which → BeginsWith (first ∷ rest) (first ∷ []) which rest
 single-begins first rest which class none spelled = record {
   spelled = spelled;
   whole = refl;
   longest = λ longer more other spelled' whole'.
-      let class' = class-same (first ∷ rest) of_symbol longer more other (ap Some class) spelled' whole' in
+      let class' = class-same (first ∷ rest) kind.Symbol longer more other (ap Some class) spelled' whole' in
       single-longest first rest longer more other none (symbol-form other longer class' spelled') whole';
-  apart = symbol-apart which rest (class-same (first ∷ rest) of_symbol (first ∷ []) rest which (ap Some class) spelled refl);
+  apart = symbol-apart which rest (class-same (first ∷ rest) kind.Symbol (first ∷ []) rest which (ap Some class) spelled refl);
 }
 
 symbol-absent : (first : ℕ) (rest bytes more : List ℕ) (other : Token) → NoDouble first rest → single_symbol first ≡ None
@@ -234,15 +232,15 @@ symbol-absent first rest (a ∷ b ∷ []) more other none alone is whole =
     cc
 symbol-absent first rest (a ∷ b ∷ c ∷ bytes) more other none alone is whole = cc
 
-pub symbol-none : (first : ℕ) (rest : List ℕ) → byte_class first ≡ of_symbol → NoDouble first rest → single_symbol first ≡ None
+pub symbol-none : (first : ℕ) (rest : List ℕ) → byte_class first ≡ kind.Symbol → NoDouble first rest → single_symbol first ≡ None
     → BeginsByNone (first ∷ rest)
 symbol-none first rest class none alone bytes behind which begins =
-    let class' = class-same (first ∷ rest) of_symbol bytes behind which (ap Some class) begins.spelled begins.whole in
+    let class' = class-same (first ∷ rest) kind.Symbol bytes behind which (ap Some class) begins.spelled begins.whole in
     symbol-absent first rest bytes behind which none alone (symbol-form which bytes class' begins.spelled) begins.whole
 
 -- One token begins a text.
 
-word-letters : (bytes : List ℕ) (which : Word) (other : Token) → class_of other ≡ of_word → bytes ≡ letters which
+word-letters : (bytes : List ℕ) (which : Word) (other : Token) → class_of other ≡ kind.Word → bytes ≡ letters which
     → IsSpelling bytes other → token.Word which ≡ other
 word-letters bytes which (token.Word word) class is other =
     let known : word_among WORDS (letters which) ≡ Some which = (word-known which).1 in
@@ -258,7 +256,7 @@ word-letters bytes which (token.Mark mark) class is other = absurd cc
 word-letters bytes which token.Not class is other = absurd cc
 word-letters bytes which (token.Binary operator) class is other = absurd cc
 
-name-own : (bytes name : List ℕ) (other : Token) → class_of other ≡ of_word → IsName name → bytes ≡ name
+name-own : (bytes name : List ℕ) (other : Token) → class_of other ≡ kind.Word → IsName name → bytes ≡ name
     → IsSpelling bytes other → token.Name name ≡ other
 name-own bytes name (token.Word word) class own is other = absurd (own.free word (sym is ∙ other))
 name-own bytes name (token.Name name') class own is other = ap token.Name (sym is ∙ other.1)
@@ -268,7 +266,7 @@ name-own bytes name (token.Mark mark) class own is other = absurd cc
 name-own bytes name token.Not class own is other = absurd cc
 name-own bytes name (token.Binary operator) class own is other = absurd cc
 
-string-own : (bytes inner items : List ℕ) (other : Token) → class_of other ≡ of_string → IsInner inner items
+string-own : (bytes inner items : List ℕ) (other : Token) → class_of other ≡ kind.Str → IsInner inner items
     → bytes ≡ 0x22 ∷ inner ++ 0x22 ∷ [] → IsSpelling bytes other → token.Str items ≡ other
 string-own bytes inner items other class inside is spelled =
     let form = string-form other bytes class spelled in
@@ -277,7 +275,7 @@ string-own bytes inner items other class inside is spelled =
     let same = inner-one inner form.1 items form.0 [] [] inside form.2 tails in
     ap token.Str same.1 ∙ sym form.4
 
-symbol-own : (bytes : List ℕ) (which other : Token) → class_of other ≡ of_symbol → symbol_of bytes ≡ Some which
+symbol-own : (bytes : List ℕ) (which other : Token) → class_of other ≡ kind.Symbol → symbol_of bytes ≡ Some which
     → IsSpelling bytes other → which ≡ other
 symbol-own bytes which other class is spelled =
     let found : symbol_of bytes ≡ Some other = symbol-form other bytes class spelled in
@@ -301,12 +299,12 @@ spelling-one bytes (token.Str items) b one other =
     string-own bytes one.0 items b (class-one bytes (token.Str items) b one other) one.1 one.2 other
 spelling-one bytes (token.Mark mark) b one other =
     symbol-own bytes (token.Mark mark) b (class-one bytes (token.Mark mark) b one other)
-        (symbol-form (token.Mark mark) bytes refl one) other
+    (symbol-form (token.Mark mark) bytes refl one) other
 spelling-one bytes token.Not b one other =
     symbol-own bytes token.Not b (class-one bytes token.Not b one other) (symbol-form token.Not bytes refl one) other
 spelling-one bytes (token.Binary operator) b one other =
     symbol-own bytes (token.Binary operator) b (class-one bytes (token.Binary operator) b one other)
-        (symbol-form (token.Binary operator) bytes refl one) other
+    (symbol-form (token.Binary operator) bytes refl one) other
 
 pub begins-one : (text x y behind rest : List ℕ) (a b : Token) → BeginsWith text x a behind → BeginsWith text y b rest
     → (x ≡ y) × (a ≡ b) × (behind ≡ rest)

@@ -37,6 +37,7 @@ pub front-passes : (test : ℕ → Bool) (text : List ℕ) → all_pass test (ta
 front-passes test [] = refl
 front-passes test (byte ∷ text) =
     let next : 1 + prefix_len test text ≡ suc (prefix_len test text) = omega arith in
-    elim (cases_Bool (test byte))
-    [ inl passes ↦ rw (passes, next, passes) (front-passes test text)
-    | inr stops ↦ rw stops refl ]
+    elim (cases_Bool (test byte)) [
+      | inl passes ↦ rw (passes, next, passes) (front-passes test text)
+      | inr stops ↦ rw stops refl
+    ]

@@ -1,11 +1,12 @@
 -- A gap is read byte by byte, and ends where a token begins.
-use Rattle.std.proofs.Common.{◌≡◌, ℕ, ◌+◌, ◌≤◌, Bool, true, false, ◌&&◌, ◌||◌, not, cond, List, [], ◌∷◌, ◌++◌, length, refl, sym, ap, ◌∙◌, subst, inl, inr, arith, append_assoc, append-nil}
+use Rattle.std.proofs.Common.{◌≡◌, ℕ, ◌+◌, ◌≤◌, Bool, true, false, ◌&&◌, ◌||◌, not, cond, List, [], ◌∷◌, ◌++◌, length, refl, sym, ap, ◌∙◌, subst, inl, inr, arith, append_assoc, append-nil, suc, add-one, take, get_or, ◌<◌}
+use Rattle.std.proofs.Math.Seq.{take-suc}
 use Rattle.std.proofs.lemmas.Bool.{and_parts, and_from, not-true, cases_Bool, eqb-true, eqb-false}
 use Rattle.std.proofs.lemmas.Bool.Decides.{nat_tests}
 use Rattle.std.specs.Prelude.{◌==◌, IsTrue}
-use Rattle.ext_mean.specs.Tokens.{IsGap, empty, blank, comment, is_blank, is_text_byte, is_comment_byte, all_pass, newline}
+use Rattle.ext_mean.specs.Tokens.{IsGap, empty, blank, comment, is_blank, is_text_byte, is_comment_byte, all_pass, newline, newlines}
 use Rattle.ext_tokens.specs.Gaps.{stops_at, comment_with, IsPassed, Stops}
-use Rattle.ext_tokens.proofs.Spellings.{front_shown}
+use Rattle.ext_tokens.proofs.Spellings.{front_shown, newlines-append}
 
 pub gap-join : {a b : List ℕ} → IsGap a → IsGap b → IsGap (a ++ b)
 gap-join empty behind = behind
@@ -36,12 +37,12 @@ step-comment : (front : List ℕ) (byte : ℕ) → IsPassed true front → is_te
 step-comment front byte (gap, words, before, good, e) in_text true ends-is =
     let P : List ℕ → Type 0 = λ text. IsGap text in
     let whole : (gap ++ 0x23 ∷ words) ++ newline ∷ [] ≡ front ++ byte ∷ [] =
-        ap (λ x. x ++ newline ∷ []) (sym e) ∙ ap (λ x. front ++ x ∷ []) (sym (eqb-true byte newline ends-is)) in
+    ap (λ x. x ++ newline ∷ []) (sym e) ∙ ap (λ x. front ++ x ∷ []) (sym (eqb-true byte newline ends-is)) in
     subst P whole (comment-closed gap words before good)
 step-comment front byte (gap, words, before, good, e) in_text false ends-is =
     let inside : is_comment_byte byte ≡ true = rw (in_text, ends-is) refl in
     let whole : front ++ byte ∷ [] ≡ gap ++ 0x23 ∷ (words ++ byte ∷ []) =
-        ap (λ x. x ++ byte ∷ []) e ∙ append_assoc gap (0x23 ∷ words) (byte ∷ []) in
+    ap (λ x. x ++ byte ∷ []) e ∙ append_assoc gap (0x23 ∷ words) (byte ∷ []) in
     (gap, words ++ byte ∷ [], before, all-pass-more is_comment_byte words byte good inside, whole)
 
 step-gap : (front : List ℕ) (byte : ℕ) → IsGap front → (not (is_blank byte) && not (byte == 0x23)) ≡ false
@@ -62,6 +63,25 @@ pub passed-step : (in_comment : Bool) (front : List ℕ) (byte : ℕ) → IsPass
     → IsPassed (comment_with in_comment byte) (front ++ byte ∷ [])
 passed-step true front byte before passes = step-comment front byte before (not-false-true (is_text_byte byte) passes) (byte == newline) refl
 passed-step false front byte before passes = step-gap front byte before passes (byte == newline) (byte == 0x23) refl refl
+
+-- one byte more is passed
+pub passed-next : (in_comment next answer : Bool) (bytes : List ℕ) (size : ℕ) → size < length bytes
+    → IsPassed in_comment (take size bytes) → answer ≡ stops_at in_comment (get_or bytes size 0) → answer ≡ false
+    → next ≡ comment_with in_comment (get_or bytes size 0) → IsPassed next (take (size + 1) bytes)
+passed-next in_comment next answer bytes size below before tested passes next-is =
+    let longer : take (size + 1) bytes ≡ take size bytes ++ get_or bytes size 0 ∷ [] = rw add-one (take-suc bytes size 0 below) in
+    let P : List ℕ → Type 0 = λ text. IsPassed next text in
+    let Q : Bool → Type 0 = λ open_there. IsPassed open_there (take size bytes ++ get_or bytes size 0 ∷ []) in
+    subst P (sym longer) (subst Q (sym next-is)
+    (passed-step in_comment (take size bytes) (get_or bytes size 0) before (sym tested ∙ passes)))
+
+pub newlines-next : (lines more : ℕ) (bytes : List ℕ) (size : ℕ) → size < length bytes → lines ≡ newlines (take size bytes)
+    → more ≡ newlines (get_or bytes size 0 ∷ []) → lines + more ≡ newlines (take (size + 1) bytes)
+newlines-next lines more bytes size below before more-is =
+    let longer : take (size + 1) bytes ≡ take size bytes ++ get_or bytes size 0 ∷ [] = rw add-one (take-suc bytes size 0 below) in
+    let parts : newlines (take size bytes ++ get_or bytes size 0 ∷ []) ≡ newlines (take size bytes) + newlines (get_or bytes size 0 ∷ []) =
+    newlines-append (take size bytes) (get_or bytes size 0 ∷ []) in
+    omega (arith, ap newlines longer)
 
 -- Where a token begins behind a gap.
 
@@ -155,7 +175,7 @@ comment-tails : (gap gap' a b x y rest rest' : List ℕ) → all_pass is_comment
 comment-tails gap gap' a b x y rest rest' good good' e e' same =
     let tails : gap ++ x ≡ gap' ++ y = cc in
     let whole : a ++ newline ∷ (rest ++ x) ≡ b ++ newline ∷ (rest' ++ y) =
-        sym (append_assoc a (newline ∷ rest) x) ∙ ap (λ z. z ++ x) (sym e) ∙ tails ∙ ap (λ z. z ++ y) e' ∙ append_assoc b (newline ∷ rest') y in
+    sym (append_assoc a (newline ∷ rest) x) ∙ ap (λ z. z ++ x) (sym e) ∙ tails ∙ ap (λ z. z ++ y) e' ∙ append_assoc b (newline ∷ rest') y in
     line-one a b (rest ++ x) (rest' ++ y) good good' whole
 
 -- what is left of a longer gap of the same text
@@ -184,8 +204,8 @@ gap-left x y (comment {gap = gap} {rest = rest} words good e front) (comment {ga
     let tails = comment-tails gap gap' words words' x y rest rest' good good' e e' same in
     let more = gap-left x y front behind shown tails.1 in
     let inside : gap' ≡ gap ++ more.left =
-        e' ∙ ap (λ z. z ++ newline ∷ rest') (sym tails.0) ∙ ap (λ z. words ++ newline ∷ z) more.longer
-        ∙ sym (append_assoc words (newline ∷ rest) more.left) ∙ ap (λ z. z ++ more.left) (sym e) in
+    e' ∙ ap (λ z. z ++ newline ∷ rest') (sym tails.0) ∙ ap (λ z. words ++ newline ∷ z) more.longer
+    ∙ sym (append_assoc words (newline ∷ rest) more.left) ∙ ap (λ z. z ++ more.left) (sym e) in
     record { left = more.left; is_gap = more.is_gap; longer = ap (λ z. 0x23 ∷ z) inside; rest = more.rest }
 
 -- no gap is left before a byte that is shown
@@ -219,7 +239,7 @@ broken-left words more y byte good bad (blank {byte = byte'} {rest = rest} is le
 broken-left words more y byte good bad (comment {gap = gap} {rest = rest} words' good' e left) shown same =
     let tails : words ++ byte ∷ more ≡ gap ++ y = cc in
     line-broken words words' more (rest ++ y) byte good good' bad
-        (tails ∙ ap (λ z. z ++ y) e ∙ append_assoc words' (newline ∷ rest) y)
+    (tails ∙ ap (λ z. z ++ y) e ∙ append_assoc words' (newline ∷ rest) y)
 
 -- a broken comment has no token behind it
 pub gap-broken : (front words gap more y : List ℕ) (byte : ℕ) → IsGap front → all_pass is_comment_byte words ≡ true → is_text_byte byte ≡ false

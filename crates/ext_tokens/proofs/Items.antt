@@ -80,20 +80,20 @@ inner-left [] ys p q rest behind one other same =
 inner-left (x ∷ xs) [] p q rest behind one other same =
     let parts = item-first p x xs one in
     let e : parts.0 ++ (parts.1 ++ rest) ≡ 0x22 ∷ behind =
-        sym (append_assoc parts.0 parts.1 rest) ∙ ap (λ z. z ++ rest) (sym parts.3) ∙ same ∙ ap (λ z. z ++ 0x22 ∷ behind) other in
+    sym (append_assoc parts.0 parts.1 rest) ∙ ap (λ z. z ++ rest) (sym parts.3) ∙ same ∙ ap (λ z. z ++ 0x22 ∷ behind) other in
     absurd (item-unquoted parts.0 x (parts.1 ++ rest) behind parts.2 e)
 inner-left (x ∷ xs) (y ∷ ys) p q rest behind one other same =
     let parts = item-first p x xs one in
     let parts' = item-first q y ys other in
     let e : parts.0 ++ (parts.1 ++ rest) ≡ parts'.0 ++ (parts'.1 ++ 0x22 ∷ behind) =
-        sym (append_assoc parts.0 parts.1 rest) ∙ ap (λ z. z ++ rest) (sym parts.3) ∙ same
-        ∙ ap (λ z. z ++ 0x22 ∷ behind) parts'.3 ∙ append_assoc parts'.0 parts'.1 (0x22 ∷ behind) in
+    sym (append_assoc parts.0 parts.1 rest) ∙ ap (λ z. z ++ rest) (sym parts.3) ∙ same
+    ∙ ap (λ z. z ++ 0x22 ∷ behind) parts'.3 ∙ append_assoc parts'.0 parts'.1 (0x22 ∷ behind) in
     let first = item-one parts.0 parts'.0 x y (parts.1 ++ rest) (parts'.1 ++ 0x22 ∷ behind) parts.2 parts'.2 e in
     let more = inner-left xs ys parts.1 parts'.1 rest behind parts.4 parts'.4 first.2 in
     let items : y ∷ ys ≡ x ∷ (xs ++ more.0) = cc in
     let bytes : q ≡ p ++ more.1 =
-        parts'.3 ∙ ap (λ z. z ++ parts'.1) (sym first.0) ∙ ap (λ z. parts.0 ++ z) more.5
-        ∙ sym (append_assoc parts.0 parts.1 more.1) ∙ ap (λ z. z ++ more.1) (sym parts.3) in
+    parts'.3 ∙ ap (λ z. z ++ parts'.1) (sym first.0) ∙ ap (λ z. parts.0 ++ z) more.5
+    ∙ sym (append_assoc parts.0 parts.1 more.1) ∙ ap (λ z. z ++ more.1) (sym parts.3) in
     (more.0, more.1, more.2, more.3, items, bytes)
 
 -- no items are left where the quote stands
@@ -102,7 +102,7 @@ none-left [] left rest behind inner same = (refl, inner)
 none-left (z ∷ zs) left rest behind inner same =
     let parts = item-first left z zs inner in
     let e : parts.0 ++ (parts.1 ++ 0x22 ∷ behind) ≡ 0x22 ∷ rest =
-        sym (append_assoc parts.0 parts.1 (0x22 ∷ behind)) ∙ ap (λ x. x ++ 0x22 ∷ behind) (sym parts.3) ∙ sym same in
+    sym (append_assoc parts.0 parts.1 (0x22 ∷ behind)) ∙ ap (λ x. x ++ 0x22 ∷ behind) (sym parts.3) ∙ sym same in
     absurd (item-unquoted parts.0 z (parts.1 ++ 0x22 ∷ behind) rest parts.2 e)
 
 -- a byte string is closed by the first quote that is no part of an item
@@ -119,7 +119,7 @@ unclosed-left [] left rest behind inner same unread unclosed = unclosed behind (
 unclosed-left (z ∷ zs) left rest behind inner same unread unclosed =
     let parts = item-first left z zs inner in
     let e : rest ≡ parts.0 ++ (parts.1 ++ 0x22 ∷ behind) =
-        same ∙ ap (λ x. x ++ 0x22 ∷ behind) parts.3 ∙ append_assoc parts.0 parts.1 (0x22 ∷ behind) in
+    same ∙ ap (λ x. x ++ 0x22 ∷ behind) parts.3 ∙ append_assoc parts.0 parts.1 (0x22 ∷ behind) in
     unread z (parts.1 ++ 0x22 ∷ behind) (parts.0, parts.2, e)
 
 -- where neither an item nor the quote stands, the string is not closed

@@ -3,3 +3,5 @@ pub mod Spellings
 pub mod Items
 pub mod Begins
 pub mod Gaps
+pub mod Slices
+pub mod Lexing

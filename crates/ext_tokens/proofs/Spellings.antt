@@ -17,7 +17,9 @@ use Rattle.ext_tokens.specs.Words.{word_among}
 use Rattle.ext_tokens.specs.Symbols.{symbol_of}
 use Rattle.ext_tokens.specs.Strings.{IsItem}
 use Rattle.ext_tokens.proofs.Items.{item-first}
-use Rattle.ext_tokens.specs.Lexemes.{Class, of_word, of_number, of_string, of_symbol, class_of, byte_class, front_class}
+use Rattle.ext_tokens.specs.declared.lexeme.Class.{Class}
+use Rattle.ext_tokens.specs.declared.lexeme.Class.TheVariants as kind
+use Rattle.ext_tokens.specs.Lexemes.{class_of, byte_class, front_class}
 
 -- the letters of each word: they have the form of a name, and are those of no other word
 pub word-known : (which : Word) → (has_name_form (letters which) ≡ true) × (word_among WORDS (letters which) ≡ Some which)
@@ -60,7 +62,7 @@ front_shown (byte ∷ bytes) = not (is_blank byte) && not (byte == 0x23)
 -- the bytes of each mark and operator
 pub record Symbol (which : Token) (bytes : List ℕ) : Type 0 where
   pub one : symbol_of bytes ≡ Some which
-  pub front : front_class bytes ≡ Some of_symbol
+  pub front : front_class bytes ≡ Some kind.Symbol
   pub shown : front_shown bytes ≡ true
   pub line : newlines bytes ≡ 0
 
@@ -92,17 +94,17 @@ operator-known op.Divide = record { one = refl; front = refl; shown = refl; line
 operator-known op.Remainder = record { one = refl; front = refl; shown = refl; line = refl }
 
 -- the class of a byte
-lower-class : (byte : ℕ) → is_lower byte ≡ true → byte_class byte ≡ of_word
+lower-class : (byte : ℕ) → is_lower byte ≡ true → byte_class byte ≡ kind.Word
 lower-class byte lower = grind (arith, nat_tests)
 
-digit-class : (byte : ℕ) → is_digit byte ≡ true → byte_class byte ≡ of_number
+digit-class : (byte : ℕ) → is_digit byte ≡ true → byte_class byte ≡ kind.Number
 digit-class byte digit = grind (arith, nat_tests)
 
 -- a digit that is not 0 is a digit
 nonzero-digit : (byte : ℕ) → is_within 0x31 0x39 byte ≡ true → is_digit byte ≡ true
 nonzero-digit byte digit = grind (arith, nat_tests)
 
-pub name-front : (bytes : List ℕ) → has_name_form bytes ≡ true → front_class bytes ≡ Some of_word
+pub name-front : (bytes : List ℕ) → has_name_form bytes ≡ true → front_class bytes ≡ Some kind.Word
 name-front [] form = cc
 name-front (byte ∷ bytes) form = ap Some (lower-class byte ((and_parts _ _ form).0))
 
@@ -112,7 +114,7 @@ numeral-digits (digit ∷ []) form = and_from _ _ form refl
 numeral-digits (digit ∷ next ∷ digits) form =
     and_from _ _ (nonzero-digit digit ((and_parts _ _ form).0)) ((and_parts _ _ form).1)
 
-pub numeral-front : (bytes : List ℕ) → is_numeral bytes ≡ true → front_class bytes ≡ Some of_number
+pub numeral-front : (bytes : List ℕ) → is_numeral bytes ≡ true → front_class bytes ≡ Some kind.Number
 numeral-front [] form = cc
 numeral-front (digit ∷ digits) form = ap Some (digit-class digit ((and_parts _ _ (numeral-digits (digit ∷ digits) form)).0))
 
@@ -127,7 +129,7 @@ spelling-front token.Not bytes spelled = rw spelled refl
 spelling-front (token.Binary which) bytes spelled = rw spelled ((operator-known which).front)
 
 -- what a spelling of each class is
-pub word-form : (which : Token) (bytes : List ℕ) → class_of which ≡ of_word → IsSpelling bytes which → has_name_form bytes ≡ true
+pub word-form : (which : Token) (bytes : List ℕ) → class_of which ≡ kind.Word → IsSpelling bytes which → has_name_form bytes ≡ true
 word-form (token.Word which) bytes is spelled = rw spelled ((word-known which).0)
 word-form (token.Name name) bytes is spelled = rw (spelled.1) (spelled.0.form)
 word-form (token.Number number) bytes is spelled = cc
@@ -136,7 +138,7 @@ word-form (token.Mark which) bytes is spelled = cc
 word-form token.Not bytes is spelled = cc
 word-form (token.Binary which) bytes is spelled = cc
 
-pub number-form : (which : Token) (bytes : List ℕ) → class_of which ≡ of_number → IsSpelling bytes which
+pub number-form : (which : Token) (bytes : List ℕ) → class_of which ≡ kind.Number → IsSpelling bytes which
     → (is_numeral bytes ≡ true) × (which ≡ token.Number (digits_from 0 bytes))
 number-form (token.Word which) bytes is spelled = absurd cc
 number-form (token.Name name) bytes is spelled = absurd cc
@@ -146,7 +148,7 @@ number-form (token.Mark which) bytes is spelled = absurd cc
 number-form token.Not bytes is spelled = absurd cc
 number-form (token.Binary which) bytes is spelled = absurd cc
 
-pub string-form : (which : Token) (bytes : List ℕ) → class_of which ≡ of_string → IsSpelling bytes which
+pub string-form : (which : Token) (bytes : List ℕ) → class_of which ≡ kind.Str → IsSpelling bytes which
     → (items inner : List ℕ) × IsInner inner items × (bytes ≡ 0x22 ∷ inner ++ 0x22 ∷ []) × (which ≡ token.Str items)
 string-form (token.Word which) bytes is spelled = absurd cc
 string-form (token.Name name) bytes is spelled = absurd cc
@@ -156,7 +158,7 @@ string-form (token.Mark which) bytes is spelled = absurd cc
 string-form token.Not bytes is spelled = absurd cc
 string-form (token.Binary which) bytes is spelled = absurd cc
 
-pub symbol-form : (which : Token) (bytes : List ℕ) → class_of which ≡ of_symbol → IsSpelling bytes which → symbol_of bytes ≡ Some which
+pub symbol-form : (which : Token) (bytes : List ℕ) → class_of which ≡ kind.Symbol → IsSpelling bytes which → symbol_of bytes ≡ Some which
 symbol-form (token.Word which) bytes is spelled = absurd cc
 symbol-form (token.Name name) bytes is spelled = absurd cc
 symbol-form (token.Number number) bytes is spelled = absurd cc

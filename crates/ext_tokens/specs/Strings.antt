@@ -12,3 +12,7 @@ IsItem bytes item =
 -- the text begins with an item, and then the rest comes
 abbrev pub BeginsByItem : List ℕ → ℕ → List ℕ → Type 0
 BeginsByItem text item rest = (bytes : List ℕ) × IsItem bytes item × (text ≡ bytes ++ rest)
+
+-- the quote that ends a byte string is at the front
+abbrev pub IsClosed : List ℕ → Type 0
+IsClosed text = (rest : List ℕ) × (text ≡ 0x22 ∷ rest)

@@ -1,9 +1,10 @@
 -- The symbols: the marks and the operators, of one byte or of two.
-use Rattle.std.specs.Prelude.{ℕ, ◌==◌, ◌&&◌, List, [], ◌∷◌, Option, Some, None, if◌then◌else◌}
+use Rattle.std.specs.Prelude.{◌≡◌, ℕ, ◌==◌, ◌&&◌, List, [], ◌∷◌, Option, Some, None, if◌then◌else◌}
 use Rattle.ext_mean.specs.declared.expr.BinOp.TheVariants as op
 use Rattle.ext_mean.specs.declared.token.Mark.TheVariants as mark
 use Rattle.ext_mean.specs.declared.token.Token.{Token}
 use Rattle.ext_mean.specs.declared.token.Token.TheVariants as token
+use Rattle.ext_mean.specs.Tokens.{IsSpelling}
 
 -- the symbol of two bytes
 abbrev pub double_symbol : ℕ → ℕ → Option Token
@@ -48,3 +49,14 @@ symbol_of [] = None
 symbol_of (byte ∷ []) = single_symbol byte
 symbol_of (first ∷ second ∷ []) = double_symbol first second
 symbol_of (first ∷ second ∷ third ∷ rest) = None
+
+-- no symbol of two bytes is made of a byte and the first of those behind it
+abbrev pub NoDouble : ℕ → List ℕ → Type 0
+NoDouble first rest =
+    (second : ℕ) (behind : List ℕ) → rest ≡ second ∷ behind → double_symbol first second ≡ None
+
+-- such a symbol is made of them
+abbrev pub IsDouble : ℕ → List ℕ → Token → Type 0
+IsDouble first rest symbol =
+    (second : ℕ) × (behind : List ℕ)
+    × (rest ≡ second ∷ behind) × IsSpelling (first ∷ second ∷ []) symbol

@@ -3,5 +3,9 @@
 #![tactic(auto)]
 
 mod bytes;
+mod gap;
+mod lexeme;
+mod numbers;
+mod strings;
 mod symbols;
 mod words;

@@ -1,11 +1,22 @@
-ghost use Rattle.std.specs.Prelude.{◌≡◌, ◌∷◌, [], IfSome};
+ghost use Rattle.std.specs.Prelude.{◌≡◌, ◌∷◌, [], IfSome, MatchOption};
 ghost use Rattle.ext_mean.specs.Tokens.{IsSpelling};
 ghost use Rattle.ext_tokens.specs.Symbols as symbols;
 
 use ext_mean::{BinOp, Mark, Token};
 
+/// The symbol of two bytes at the front of a text, by its first byte and those behind it.
+pub fn double_at(first: u8, rest: &[u8]) -> Option<Token>
+    ensures { MatchOption result (symbols.NoDouble first rest.now)
+        (λ token. symbols.IsDouble first rest.now token) }
+{
+    match rest {
+        [second, ..] => double_symbol(first, *second),
+        [] => None,
+    }
+}
+
 /// The symbol of two bytes.
-pub fn double_symbol(first: u8, second: u8) -> Option<Token>
+fn double_symbol(first: u8, second: u8) -> Option<Token>
     ensures value { result ≡ symbols.double_symbol first second }
     ensures spelled { IfSome result (λ token. IsSpelling (first ∷ second ∷ []) token) }
 {
