@@ -85,7 +85,7 @@ newlines-next lines more bytes size below before more-is =
 
 -- Where a token begins behind a gap.
 
-shown-parts : (byte : ℕ) → (not (is_blank byte) && not (byte == 0x23)) ≡ true → (is_blank byte ≡ false) × (byte ≡ 0x23 → ⊥)
+pub shown-parts : (byte : ℕ) → (not (is_blank byte) && not (byte == 0x23)) ≡ true → (is_blank byte ≡ false) × (byte ≡ 0x23 → ⊥)
 shown-parts byte is =
     let parts = and_parts (not (is_blank byte)) (not (byte == 0x23)) is in
     (not-true (is_blank byte) parts.0, eqb-false byte 0x23 (not-true (byte == 0x23) parts.1))

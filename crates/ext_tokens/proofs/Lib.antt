@@ -5,3 +5,6 @@ pub mod Begins
 pub mod Gaps
 pub mod Slices
 pub mod Lexing
+pub mod Skipped
+pub mod Readings
+pub mod Progress

@@ -197,7 +197,7 @@ pub newlines-append : (a b : List ℕ) → newlines (a ++ b) ≡ newlines a + ne
 newlines-append [] b = omega arith
 newlines-append (byte ∷ a) b = let rest : newlines (a ++ b) ≡ newlines a + newlines b = newlines-append a b in omega arith
 
-no-lines : (test : ℕ → Bool) (bytes : List ℕ) → ((byte : ℕ) → test byte ≡ true → (byte == newline) ≡ false)
+pub no-lines : (test : ℕ → Bool) (bytes : List ℕ) → ((byte : ℕ) → test byte ≡ true → (byte == newline) ≡ false)
     → all_pass test bytes ≡ true → newlines bytes ≡ 0
 no-lines test [] none pass = refl
 no-lines test (byte ∷ bytes) none pass =

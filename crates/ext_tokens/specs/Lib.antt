@@ -3,3 +3,5 @@ pub mod Symbols
 pub mod Lexemes
 pub mod Strings
 pub mod Gaps
+pub mod Next
+pub mod Scanning

@@ -5,7 +5,11 @@
 mod bytes;
 mod gap;
 mod lexeme;
+mod next;
 mod numbers;
+mod scan;
 mod strings;
 mod symbols;
 mod words;
+
+pub use scan::{End, Scanned, scan_text};
