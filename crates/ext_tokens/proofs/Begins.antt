@@ -1,7 +1,6 @@
 -- Which token begins a text, by the class of its first byte.
-use Rattle.std.proofs.Common.{◌≡◌, ℕ, suc, ◌+◌, ◌<◌, ◌≤◌, Bool, true, false, cond, ◌||◌, List, [], ◌∷◌, ◌++◌, length, take, drop, Option, Some, None, refl, sym, ap, ◌∙◌, subst, inl, inr, arith, append_assoc}
-use Rattle.std.proofs.lemmas.Bool.{and_parts, and_from, or_parts}
-use Rattle.std.proofs.lemmas.Grind.{common_steps}
+use Rattle.std.proofs.Common.{◌≡◌, ℕ, suc, ◌+◌, ◌≤◌, Bool, true, false, cond, List, [], ◌∷◌, ◌++◌, length, take, drop, Some, None, refl, sym, ap, ◌∙◌, subst, arith, append_assoc}
+use Rattle.std.proofs.lemmas.Bool.{and_from, or_parts}
 use Rattle.std.proofs.lemmas.List.Folds.{length-prefix_len}
 use Rattle.std.proofs.lemmas.List.{take-append-drop}
 use Rattle.std.proofs.Math.Seq.{take-append_seam, drop-append_seam}
@@ -10,16 +9,16 @@ use Rattle.std.specs.Prelude.{◌==◌}
 use Rattle.ext_mean.specs.declared.token.Token.{Token}
 use Rattle.ext_mean.specs.declared.token.Token.TheVariants as token
 use Rattle.ext_mean.specs.declared.token.Word.{Word}
-use Rattle.ext_mean.specs.Tokens.{letters, has_name_form, is_name_byte, is_lower, is_digit, is_numeral, is_word_byte, begins_word, all_pass, IsName, IsInner, IsSpelling, StandsApart, BeginsWith, digits_from}
+use Rattle.ext_mean.specs.Tokens.{letters, has_name_form, is_name_byte, is_lower, is_digit, is_numeral, begins_word, IsName, IsInner, IsSpelling, StandsApart, BeginsWith, digits_from}
 use Rattle.ext_tokens.specs.Words.{word_among}
 use Rattle.ext_tokens.specs.Symbols.{symbol_of, double_symbol, single_symbol, NoDouble}
 use Rattle.ext_tokens.specs.Strings.{BeginsByItem}
 use Rattle.ext_tokens.specs.declared.lexeme.Class.{Class}
 use Rattle.ext_tokens.specs.declared.lexeme.Class.TheVariants as kind
-use Rattle.ext_tokens.specs.Lexemes.{class_of, byte_class, front_class, BeginsBy, BeginsByNone}
+use Rattle.ext_tokens.specs.Lexemes.{class_of, byte_class, front_class, BeginsByNone}
 use Rattle.ext_tokens.specs.declared.words.TheConstants.{WORDS}
 use Rattle.ext_tokens.proofs.Fronts.{fronts-one, passing-within, passing-all, front-passes}
-use Rattle.ext_tokens.proofs.Spellings.{word-known, lower-name, name-bytes, spelling-front, word-form, number-form, string-form, symbol-form, numeral-digits, numeral-front}
+use Rattle.ext_tokens.proofs.Spellings.{word-known, lower-name, name-bytes, spelling-front, word-form, number-form, string-form, symbol-form, numeral-digits}
 use Rattle.ext_tokens.proofs.Items.{inner-one, inner-unclosed}
 
 -- the class of what spells a front of the text

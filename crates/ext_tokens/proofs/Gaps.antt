@@ -1,11 +1,11 @@
 -- A gap is read byte by byte, and ends where a token begins.
-use Rattle.std.proofs.Common.{◌≡◌, ℕ, ◌+◌, ◌≤◌, Bool, true, false, ◌&&◌, ◌||◌, not, cond, List, [], ◌∷◌, ◌++◌, length, refl, sym, ap, ◌∙◌, subst, inl, inr, arith, append_assoc, append-nil, suc, add-one, take, get_or, ◌<◌}
+use Rattle.std.proofs.Common.{◌≡◌, ℕ, ◌+◌, Bool, true, false, ◌&&◌, ◌||◌, not, List, [], ◌∷◌, ◌++◌, length, refl, sym, ap, ◌∙◌, subst, arith, append_assoc, append-nil, add-one, take, get_or, ◌<◌}
 use Rattle.std.proofs.Math.Seq.{take-suc}
-use Rattle.std.proofs.lemmas.Bool.{and_parts, and_from, not-true, cases_Bool, eqb-true, eqb-false}
+use Rattle.std.proofs.lemmas.Bool.{and_parts, and_from, not-true, eqb-true, eqb-false}
 use Rattle.std.proofs.lemmas.Bool.Decides.{nat_tests}
-use Rattle.std.specs.Prelude.{◌==◌, IsTrue}
+use Rattle.std.specs.Prelude.{◌==◌}
 use Rattle.ext_mean.specs.Tokens.{IsGap, empty, blank, comment, is_blank, is_text_byte, is_comment_byte, all_pass, newline, newlines}
-use Rattle.ext_tokens.specs.Gaps.{stops_at, comment_with, IsPassed, Stops}
+use Rattle.ext_tokens.specs.Gaps.{stops_at, comment_with, IsPassed}
 use Rattle.ext_tokens.proofs.Spellings.{front_shown, newlines-append}
 
 pub gap-join : {a b : List ℕ} → IsGap a → IsGap b → IsGap (a ++ b)

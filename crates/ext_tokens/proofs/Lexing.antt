@@ -1,5 +1,5 @@
 -- What is read at the front of a text, class by class.
-use Rattle.std.proofs.Common.{◌≡◌, ℕ, ◌+◌, ◌-◌, ◌*◌, ◌<◌, ◌≤◌, ◌^◌, Bool, true, false, List, [], ◌∷◌, ◌++◌, length, take, drop, Option, Some, None, refl, sym, ap, ◌∙◌, subst, inl, inr, arith, append_assoc, length-append, suc, get_or, drop-cons}
+use Rattle.std.proofs.Common.{◌≡◌, ℕ, ◌+◌, ◌-◌, ◌*◌, ◌<◌, ◌≤◌, ◌^◌, true, false, List, [], ◌∷◌, ◌++◌, length, take, drop, Some, None, refl, sym, ap, ◌∙◌, subst, inl, inr, arith, append_assoc, length-append, suc, get_or, drop-cons}
 use Rattle.std.proofs.lemmas.Bool.{cases_Bool}
 use Rattle.std.proofs.lemmas.List.Folds.{length-prefix_len}
 use Rattle.std.proofs.lemmas.Slice.Eq.{bytes_eq-Decides}
@@ -8,13 +8,13 @@ use Rattle.std.specs.Str.{bytes_eq}
 use Rattle.ext_mean.specs.declared.token.Word.{Word}
 use Rattle.ext_mean.specs.declared.token.Token.{Token}
 use Rattle.ext_mean.specs.declared.token.Token.TheVariants as token
-use Rattle.ext_mean.specs.Tokens.{letters, is_name_byte, is_digit, is_numeral, begins_word, hex_digit, escaped, IsName, IsInner, IsSpelling, BeginsWith, digits_from}
+use Rattle.ext_mean.specs.Tokens.{letters, is_name_byte, is_digit, is_numeral, begins_word, hex_digit, escaped, IsName, IsInner, IsSpelling, digits_from}
 use Rattle.ext_mean.specs.Bounds.{IsTooLong}
 use Rattle.ext_tokens.specs.declared.words.TheConstants.{WORDS}
 use Rattle.ext_tokens.specs.declared.lexeme.Class.TheVariants as kind
 use Rattle.ext_tokens.specs.declared.lexeme.Lexeme.TheVariants as lexeme
 use Rattle.ext_tokens.specs.Words.{word_among}
-use Rattle.ext_tokens.specs.Symbols.{single_symbol, NoDouble, IsDouble}
+use Rattle.ext_tokens.specs.Symbols.{NoDouble, IsDouble}
 use Rattle.ext_tokens.specs.Strings.{IsItem, BeginsByItem, IsClosed}
 use Rattle.ext_tokens.specs.Lexemes.{class_of, byte_class, front_class, BeginsBy, BeginsByNone, IsLexeme}
 use Rattle.ext_tokens.proofs.Spellings.{word-known, spelling-front}

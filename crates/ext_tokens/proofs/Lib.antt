@@ -8,3 +8,4 @@ pub mod Lexing
 pub mod Skipped
 pub mod Readings
 pub mod Progress
+pub mod ReadingsAreOne

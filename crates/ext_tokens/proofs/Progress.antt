@@ -1,5 +1,5 @@
 -- The tokens that were read so far, and what stands behind the last one.
-use Rattle.std.proofs.Common.{◌≡◌, ℕ, ◌+◌, ◌-◌, ◌≤◌, ◌<◌, Bool, true, false, List, [], ◌∷◌, ◌++◌, ◌⊎◌, length, drop, refl, sym, ap, ◌∙◌, subst, inl, inr, arith, length-append, suc}
+use Rattle.std.proofs.Common.{◌≡◌, ℕ, ◌+◌, ◌≤◌, List, [], ◌∷◌, ◌++◌, ◌⊎◌, length, drop, refl, sym, ap, ◌∙◌, subst, inl, inr, arith, length-append, suc}
 use Rattle.std.specs.Prelude.{◌==◌, IsTrue, if◌then◌else◌}
 use Rattle.std.proofs.lemmas.Bool.{cases_Bool}
 use Rattle.ext_mean.specs.declared.codes.SyntaxCode.{SyntaxCode}
@@ -9,7 +9,7 @@ use Rattle.ext_mean.specs.declared.token.Token.TheVariants as token
 use Rattle.ext_mean.specs.declared.token.Mark.{Mark}
 use Rattle.ext_mean.specs.declared.token.Mark.TheVariants as mark
 use Rattle.ext_mean.specs.declared.token.Placed.{Placed}
-use Rattle.ext_mean.specs.Tokens.{Tokens, IsGap, tokens_of, newlines, newline}
+use Rattle.ext_mean.specs.Tokens.{Tokens, tokens_of, newlines, newline}
 use Rattle.ext_mean.specs.Bounds.{IsTooLong, IsTooDeep, is_opening, open_with, open_behind}
 use Rattle.ext_mean.specs.SyntaxFaults.{line_behind}
 use Rattle.ext_mean.specs.Text.{EndsLine}

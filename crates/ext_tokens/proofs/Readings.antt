@@ -1,8 +1,8 @@
 -- The tokens of a text are read in one way, and may be read in parts.
-use Rattle.std.proofs.Common.{◌≡◌, ℕ, ◌+◌, ◌≤◌, ◌<◌, Bool, true, false, List, [], ◌∷◌, ◌++◌, length, refl, sym, ap, ◌∙◌, subst, inl, inr, arith, append_assoc, length-append}
+use Rattle.std.proofs.Common.{◌≡◌, ℕ, ◌+◌, ◌≤◌, true, List, [], ◌∷◌, ◌++◌, length, refl, sym, ap, ◌∙◌, subst, arith, append_assoc}
 use Rattle.ext_mean.specs.declared.token.Token.{Token}
 use Rattle.ext_mean.specs.declared.token.Placed.{Placed}
-use Rattle.ext_mean.specs.Tokens.{Tokens, IsGap, IsSpelling, BeginsWith, newlines, tokens_of, is_comment_byte, all_pass}
+use Rattle.ext_mean.specs.Tokens.{Tokens, IsGap, BeginsWith, newlines}
 use Rattle.ext_mean.specs.SyntaxFaults.{HasNoToken, BreaksComment, line_behind}
 use Rattle.ext_tokens.proofs.Spellings.{spelling-shown, spelling-line, newlines-append, front_shown}
 use Rattle.ext_tokens.proofs.Begins.{begins-one}

@@ -1,16 +1,13 @@
 -- What comes next behind a gap.
 use Rattle.std.proofs.Common.{◌≡◌, ℕ, ◌+◌, ◌-◌, ◌≤◌, ◌<◌, Bool, true, false, not, List, [], ◌∷◌, ◌++◌, length, take, drop, Some, refl, sym, ap, ◌∙◌, subst, inl, inr, arith, append_assoc, append-nil, length-append}
-use Rattle.std.proofs.lemmas.Bool.{and_parts, not-true, eqb-false}
+use Rattle.std.proofs.lemmas.Bool.{and_parts, not-true}
 use Rattle.std.proofs.lemmas.List.{take-append-drop}
 use Rattle.std.proofs.Math.Seq.{drop-append_seam}
 use Rattle.std.specs.Prelude.{◌==◌}
 use Rattle.ext_mean.specs.declared.codes.SyntaxCode.TheVariants as code
 use Rattle.ext_mean.specs.declared.token.Token.{Token}
-use Rattle.ext_mean.specs.declared.token.Placed.{Placed}
-use Rattle.ext_mean.specs.Tokens.{Tokens, IsGap, BeginsWith, newlines, newline, is_blank, is_text_byte, is_comment_byte, all_pass}
+use Rattle.ext_mean.specs.Tokens.{Tokens, IsGap, BeginsWith, newlines, newline, is_text_byte, is_comment_byte, all_pass}
 use Rattle.ext_mean.specs.Bounds.{IsTooLong}
-use Rattle.ext_mean.specs.SyntaxFaults.{HasNoToken, BreaksComment}
-use Rattle.ext_mean.specs.Text.{EndsLine}
 use Rattle.ext_tokens.specs.declared.scan.End.TheVariants as end
 use Rattle.ext_tokens.specs.declared.next.Next.TheVariants as next
 use Rattle.ext_tokens.specs.declared.lexeme.Class.{Class}

@@ -1,6 +1,6 @@
 -- What the spellings of each class of tokens look like.
-use Rattle.std.proofs.Common.{◌≡◌, ℕ, ◌+◌, ◌-◌, ◌*◌, ◌<◌, ◌≤◌, Bool, true, false, ◌&&◌, ◌||◌, not, List, [], ◌∷◌, ◌++◌, length, Option, Some, None, refl, sym, ap, ◌∙◌, subst, inl, inr, arith}
-use Rattle.std.proofs.lemmas.Bool.{and_parts, and_from, or_cases, or_left, or_right, cases_Bool, leb-true, le-leb, eqb-true}
+use Rattle.std.proofs.Common.{◌≡◌, ℕ, ◌+◌, ◌<◌, Bool, true, false, ◌&&◌, ◌||◌, not, List, [], ◌∷◌, ◌++◌, Some, refl, ap, inl, inr, arith}
+use Rattle.std.proofs.lemmas.Bool.{and_parts, and_from, or_left}
 use Rattle.std.proofs.lemmas.Bool.Decides.{nat_tests}
 use Rattle.std.specs.Prelude.{◌==◌}
 use Rattle.ext_mean.specs.declared.expr.BinOp.{BinOp}
@@ -11,13 +11,12 @@ use Rattle.ext_mean.specs.declared.token.Mark.{Mark}
 use Rattle.ext_mean.specs.declared.token.Mark.TheVariants as mark
 use Rattle.ext_mean.specs.declared.token.Token.{Token}
 use Rattle.ext_mean.specs.declared.token.Token.TheVariants as token
-use Rattle.ext_mean.specs.Tokens.{letters, mark_bytes, operator_bytes, has_name_form, is_name_byte, is_lower, is_digit, is_numeral, is_within, is_plain, is_blank, hex_digit, newline, all_pass, newlines, IsName, IsInner, IsSpelling, digits_from}
+use Rattle.ext_mean.specs.Tokens.{letters, mark_bytes, operator_bytes, has_name_form, is_name_byte, is_lower, is_digit, is_numeral, is_within, is_plain, is_blank, hex_digit, newline, all_pass, newlines, IsInner, IsSpelling, digits_from}
 use Rattle.ext_tokens.specs.declared.words.TheConstants.{WORDS}
 use Rattle.ext_tokens.specs.Words.{word_among}
 use Rattle.ext_tokens.specs.Symbols.{symbol_of}
 use Rattle.ext_tokens.specs.Strings.{IsItem}
 use Rattle.ext_tokens.proofs.Items.{item-first}
-use Rattle.ext_tokens.specs.declared.lexeme.Class.{Class}
 use Rattle.ext_tokens.specs.declared.lexeme.Class.TheVariants as kind
 use Rattle.ext_tokens.specs.Lexemes.{class_of, byte_class, front_class}
 

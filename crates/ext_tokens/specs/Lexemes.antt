@@ -1,5 +1,5 @@
 -- The token at the front of a text, by the class of its first byte.
-use Rattle.std.specs.Prelude.{◌≡◌, ◌==◌, ℕ, List, [], ◌∷◌, ◌++◌, length, Option, Some, None, if◌then◌else◌}
+use Rattle.std.specs.Prelude.{◌≡◌, ◌==◌, ℕ, List, [], ◌∷◌, length, Option, Some, None, if◌then◌else◌}
 use Rattle.ext_mean.specs.declared.token.Token.{Token}
 use Rattle.ext_mean.specs.declared.token.Token.TheVariants as token
 use Rattle.ext_tokens.specs.declared.lexeme.Class.{Class}

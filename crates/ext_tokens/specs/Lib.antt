@@ -5,3 +5,4 @@ pub mod Strings
 pub mod Gaps
 pub mod Next
 pub mod Scanning
+pub mod Laws

@@ -4,7 +4,9 @@
 
 mod bytes;
 mod gap;
+mod laws;
 mod lexeme;
+mod lines;
 mod next;
 mod numbers;
 mod scan;
@@ -12,4 +14,6 @@ mod strings;
 mod symbols;
 mod words;
 
+pub use laws::{ends_are_one, no_token_follows, tokens_are_one, tokens_join, tokens_part};
+pub use lines::ends_line;
 pub use scan::{End, Scanned, scan_text};

@@ -1,5 +1,5 @@
 -- One byte more is passed.
-use Rattle.std.proofs.Common.{◌≡◌, ◌+◌, length, take, get_or, refl, arith, sym, subst, ap}
+use Rattle.std.proofs.Common.{refl, arith}
 use Rattle.ext_mean.specs.Tokens.{empty}
 use Rattle.ext_tokens.proofs.Gaps.{passed-next, newlines-next}
 use Rattle.ext_tokens.proofs.gap.skip_gap.Goals as goal

@@ -1,5 +1,5 @@
 -- The word or the name is all the name bytes at the front.
-use Rattle.std.proofs.Common.{◌≡◌, ◌<◌, ◌≤◌, ap, ◌∙◌, sym, take, arith}
+use Rattle.std.proofs.Common.{ap, ◌∙◌, arith}
 use Rattle.std.proofs.lemmas.List.Sums.{prefix_len-le-length}
 use Rattle.ext_mean.specs.Tokens.{is_name_byte}
 use Rattle.ext_tokens.specs.declared.words.TheConstants.{WORDS}

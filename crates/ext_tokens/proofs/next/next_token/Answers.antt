@@ -1,10 +1,9 @@
 -- What comes next, behind the gap at the front.
-use Rattle.std.proofs.Common.{◌≡◌, ◌+◌, ◌≤◌, ◌<◌, ℕ, Bool, List, take, drop, length, subst, sym, ap, ◌∙◌, refl, arith, length-take}
+use Rattle.std.proofs.Common.{◌≡◌, take, length, subst, sym, ◌∙◌, arith, length-take}
 use Rattle.std.proofs.lemmas.Bool.{eqb-true, eqb-false}
-use Rattle.ext_mean.specs.Tokens.{newlines}
 use Rattle.ext_tokens.specs.Lexemes.{IsLexeme}
 use Rattle.ext_tokens.specs.declared.lexeme.Lexeme.{Lexeme}
-use Rattle.ext_tokens.proofs.Skipped.{IsSkipped, skipped, newlines-split, end-next, comment-next, nothing-next, long-next, token-next}
+use Rattle.ext_tokens.proofs.Skipped.{skipped, newlines-split, end-next, comment-next, nothing-next, long-next, token-next}
 use Rattle.ext_tokens.proofs.next.next_token.Goals as goal
 
 pub overflow_add-line : goal.overflow_add-line

@@ -1,5 +1,5 @@
 -- One token more is read, or the end is reached.
-use Rattle.std.proofs.Common.{◌≡◌, ◌+◌, ◌≤◌, ℕ, List, ◌∷◌, ◌++◌, length, drop, subst, sym, ap, ◌∙◌, arith}
+use Rattle.std.proofs.Common.{ℕ, List, drop, subst, sym, arith}
 use Rattle.std.proofs.lemmas.Bool.{both_ways}
 use Rattle.ext_mean.specs.declared.token.Placed.{Placed}
 use Rattle.ext_mean.specs.Bounds.{open_with}

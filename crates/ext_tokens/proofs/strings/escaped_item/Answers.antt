@@ -1,5 +1,5 @@
 -- The two digits tell the item.
-use Rattle.std.proofs.Common.{◌≡◌, ◌∷◌, ◌-◌, List, ℕ, length, get_or, take, drop, ap, inr, refl, arith}
+use Rattle.std.proofs.Common.{◌≡◌, get_or, arith}
 use Rattle.ext_tokens.proofs.Lexing.{escaped-begins}
 use Rattle.ext_tokens.proofs.strings.escaped_item.Goals as goal
 

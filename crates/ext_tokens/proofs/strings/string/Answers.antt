@@ -1,5 +1,5 @@
 -- One item more is read, or the string ends where none is left.
-use Rattle.std.proofs.Common.{◌≡◌, ◌+◌, ◌-◌, ◌≤◌, length, arith, subst, sym, ◌∙◌, ap, List, ◌∷◌, ℕ}
+use Rattle.std.proofs.Common.{◌≡◌, ◌+◌, ◌-◌, length, arith, subst, sym, List, ◌∷◌, ℕ}
 use Rattle.std.proofs.lemmas.Bool.{both_ways}
 use Rattle.ext_mean.specs.declared.token.Token.TheVariants as token
 use Rattle.ext_tokens.specs.declared.lexeme.Lexeme.TheVariants as lexeme
