@@ -17,3 +17,6 @@ mod words;
 pub use laws::{ends_are_one, no_token_follows, tokens_are_one, tokens_join, tokens_part};
 pub use lines::ends_line;
 pub use scan::{End, Scanned, scan_text};
+
+#[cfg(test)]
+mod tests;
