@@ -27,7 +27,7 @@ pub struct Scanned {
     pub end: End,
 }
 
-/// Reads the tokens of a text of whole lines from left to right, each byte once.
+/// Reads the tokens of a text of whole lines from left to right.
 pub fn scan_text(alloc: Global, text: &[u8]) -> Result<Scanned, Memory>
     requires size { length text.now ≤ 16384 }
     requires lines { EndsLine text.now }
