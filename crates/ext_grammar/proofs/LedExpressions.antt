@@ -34,7 +34,7 @@ module _ (program : Program) where
   as-unary (alloc table key size) around before rest walk = walk
 
   -- an expression and the tokens behind it
-  followed-by : (tokens : List Token) (inner : Disjunction) (inside : AroundExpr) (to : Coming) → Leads program (disjunction_tokens inner) (expression inside) (behind (disjunction_tree inner) inside) → Leads program tokens (behind (disjunction_tree inner) inside) to → Leads program (disjunction_tokens inner ++ tokens) (expression inside) to
+  pub followed-by : (tokens : List Token) (inner : Disjunction) (inside : AroundExpr) (to : Coming) → Leads program (disjunction_tokens inner) (expression inside) (behind (disjunction_tree inner) inside) → Leads program tokens (behind (disjunction_tree inner) inside) to → Leads program (disjunction_tokens inner ++ tokens) (expression inside) to
   followed-by tokens inner inside to one two =
       join program (disjunction_tokens inner) tokens (expression inside) (behind (disjunction_tree inner) inside) to one two
 

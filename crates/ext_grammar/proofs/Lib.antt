@@ -1,3 +1,5 @@
 pub mod Walks
 pub mod Leading
 pub mod LedExpressions
+pub mod LedItems
+pub mod LedStatements
