@@ -3,3 +3,4 @@ pub mod Leading
 pub mod LedExpressions
 pub mod LedItems
 pub mod LedStatements
+pub mod LedPrograms
