@@ -4,3 +4,5 @@ pub mod LedExpressions
 pub mod LedItems
 pub mod LedStatements
 pub mod LedPrograms
+pub mod BareTokens
+pub mod Continuing
