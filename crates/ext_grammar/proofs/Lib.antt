@@ -6,3 +6,4 @@ pub mod LedStatements
 pub mod LedPrograms
 pub mod BareTokens
 pub mod Continuing
+pub mod Completions
