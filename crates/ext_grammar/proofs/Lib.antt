@@ -7,3 +7,7 @@ pub mod LedPrograms
 pub mod BareTokens
 pub mod Continuing
 pub mod Completions
+pub mod Joined
+pub mod StepsOfExpressions
+pub mod StepsOfStatements
+pub mod Steps
