@@ -21,7 +21,7 @@ pub joined : (first second : List Token) (all middle rest : List Token) → all 
 joined first second all middle rest one two = one ∙ ap (λ it. first ++ it) two ∙ sym (append_assoc first second rest)
 
 -- a mark, a name and a kind
-mark-is : (of : Mark) (next : Token) → is_mark of next ≡ true → next ≡ token.Mark of
+pub mark-is : (of : Mark) (next : Token) → is_mark of next ≡ true → next ≡ token.Mark of
 mark-is mark.Open (token.Mark mark.Open) same = refl
 mark-is mark.Close (token.Mark mark.Close) same = refl
 mark-is mark.OpenBlock (token.Mark mark.OpenBlock) same = refl
