@@ -23,7 +23,7 @@ use Rattle.ext_grammar.proofs.Continuing.{Reads, Further, no_further, further, f
 use Rattle.ext_grammar.proofs.Joined.{Then, joined, mark-is, from-mark, product-read, sum-read, comparison-read, conjunction-read, whole-read}
 
 -- operands
-opened : (within : AroundExpr) (tokens : List Token) → Continues (fixed mark.Open (expression within)) tokens → (inner : Disjunction) × Reads (token.Mark mark.Open ∷ disjunction_tokens inner) (AfterExpr within) tokens
+pub opened : (within : AroundExpr) (tokens : List Token) → Continues (fixed mark.Open (expression within)) tokens → (inner : Disjunction) × Reads (token.Mark mark.Open ∷ disjunction_tokens inner) (AfterExpr within) tokens
 opened within tokens (rest, same, read) =
     let (inner, (last, e, after)) = whole-read within rest read in
     (inner, (last, same ∙ ap (λ it. token.Mark mark.Open ∷ it) e, after))
