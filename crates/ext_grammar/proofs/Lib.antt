@@ -11,3 +11,5 @@ pub mod Joined
 pub mod StepsOfExpressions
 pub mod StepsOfStatements
 pub mod Steps
+pub mod Kept
+pub mod KeptByTokens
