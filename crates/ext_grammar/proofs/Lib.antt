@@ -13,3 +13,6 @@ pub mod StepsOfStatements
 pub mod Steps
 pub mod Kept
 pub mod KeptByTokens
+pub mod Reached
+pub mod Completed
+pub mod Explained
