@@ -16,3 +16,7 @@ pub mod KeptByTokens
 pub mod Reached
 pub mod Completed
 pub mod Explained
+pub mod Bounding
+pub mod Faults
+pub mod Accepted
+pub mod AgreementProved
