@@ -20,10 +20,6 @@ nothing = open_end end_statements
 abbrev neither : Arms
 neither = arms [] nothing nothing
 
--- these tokens, and then what follows them
-with : (first : List Token) (More : List Token → Type 0) → (rest : List Token) × More rest → (tokens : List Token) × Reads first More tokens
-with first More (rest, more) = (first ++ rest, (rest, refl, more))
-
 mutual
   after-block : (around : AroundBlock) → (tokens : List Token) × AfterBlock around tokens
   after-block (if_block test operators around) =

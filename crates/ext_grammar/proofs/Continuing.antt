@@ -132,10 +132,7 @@ AfterExpr (del_key table around) tokens = Reads (close ∷ semicolon ∷ []) (Af
 AfterExpr (answered around) tokens = Reads (close ∷ semicolon ∷ []) (AfterStatement around) tokens
 AfterExpr (returned known around) tokens = Reads (semicolon ∷ close_block ∷ []) (AfterBlock around) tokens
 
--- behind the functions that are known
-abbrev pub MoreOf : List Token → Type 0
-MoreOf = AreFunctions
-
+-- these tokens may come where a reader is in this state, and end a program
 abbrev pub Continues : Coming → List Token → Type 0
 Continues (fixed kind coming) tokens = Reads (token.Mark kind ∷ []) (Continues coming) tokens
 Continues (unary around) tokens = (operand : Unary) × Reads (unary_tokens operand) (AfterExpr around) tokens

@@ -1,12 +1,9 @@
-//! The text of extensions: the reader that gives a text's tree or its first fault.
+//! The grammar of extensions, read with one token of look-ahead: what a reader that stands between two
+//! tokens has to know, and that what it answers is what the grammar says.
+//!
+//! The reader is a definition, in `specs/Coming.antt` and `specs/Reading.antt`. This crate has no code.
 #![tactic(auto)]
 
-ghost use Rattle.std.specs.Prelude.{◌≡◌};
-ghost use Rattle.ext_grammar.specs.Agreement.{FaultsAreFirst};
+mod laws;
 
-/// A trial.
-pub fn trial() -> u32
-    ensures { result ≡ 0 }
-{
-    0
-}
+pub use laws::{accepted_are_programs, faults_are_first, programs_are_accepted};
