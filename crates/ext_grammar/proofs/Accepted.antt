@@ -1,11 +1,9 @@
 -- The reader accepts the tokens of each program within the bounds.
-use Rattle.std.proofs.Common.{◌≡◌, ◌≤◌, ℕ, ◌&&◌, ◌||◌, ◌⊎◌, Bool, true, false, List, [], ◌∷◌, ◌++◌, Option, Some, None, nat_le, refl, sym, ◌∙◌, ap, subst, append_assoc, append-nil, arith, inl, inr, if◌then◌else◌}
+use Rattle.std.proofs.Common.{◌≡◌, ◌≤◌, ℕ, ◌&&◌, Bool, true, false, List, [], ◌∷◌, ◌++◌, Option, Some, None, nat_le, refl, sym, ◌∙◌, ap, subst, append_assoc, append-nil, arith, inl, inr, if◌then◌else◌}
 use Rattle.std.proofs.lemmas.Bool.{leb-true}
-use Rattle.ext_mean.specs.declared.codes.SyntaxCode.TheVariants as code
 use Rattle.ext_mean.specs.declared.token.Placed.{Placed}
-use Rattle.ext_mean.specs.declared.token.Token.{Token}
 use Rattle.ext_mean.specs.declared.tree.Program.{Program}
-use Rattle.ext_mean.specs.Bounds.{IsBounded, AreBounded, operators_at, functions_behind, locals_behind, IsNaming, IsAnyName}
+use Rattle.ext_mean.specs.Bounds.{IsBounded, AreBounded, operators_at, functions_behind, locals_behind, IsNaming}
 use Rattle.ext_mean.specs.Text.{item_lines, line_if_begins}
 use Rattle.ext_mean.specs.Tokens.{tokens_of}
 use Rattle.ext_mean.specs.Wording.{Slot, slot, Standing, is_operator, slot_tokens}
@@ -16,7 +14,7 @@ use Rattle.ext_grammar.proofs.Walks.{Takes, Walk, Ended}
 use Rattle.ext_grammar.proofs.Kept.{Kept}
 use Rattle.ext_grammar.proofs.KeptByTokens.{keeps}
 use Rattle.ext_grammar.proofs.Reached.{Reached, onward, counting, kept-move, slot-is, line-last, reached-zeroed, reached-counts}
-use Rattle.ext_grammar.proofs.Bounding.{both-true, either-true, functions-full, locals-full}
+use Rattle.ext_grammar.proofs.Bounding.{both-true, functions-full, locals-full}
 
 move-of : (found : Option Move) (standing : Standing) (more : Coming → ℕ → Type 0) → Takes found standing more → (move : Move) × (found ≡ Some move) × (move.standing ≡ standing) × more move.coming move.operators
 move-of None standing more takes = absurd takes
@@ -91,7 +89,7 @@ module _ (ending : Ending) (complete : ending.complete ≡ true) (program : Prog
       let one : IsBounded slots (slot next.token move.standing) = subst P there-is (bounds slots there more refl) in
       let Q : List Slot → Type 0 = λ it. AreBounded it in
       let all : slots ++ there ∷ more ≡ (slots ++ slot next.token move.standing ∷ []) ++ more =
-          ap (λ it. slots ++ it ∷ more) there-is ∙ sym (append_assoc slots (slot next.token move.standing ∷ []) more) in
+      ap (λ it. slots ++ it ∷ more) there-is ∙ sym (append_assoc slots (slot next.token move.standing ∷ []) more) in
       goes-on placed coming counted slots reached next rest move.standing one move moved refl
       ∙ followed more rest (placed ++ next ∷ []) move.coming (counting counted next move) (slots ++ slot next.token move.standing ∷ []) (onward reached next move moved one) onwards (cc) (subst Q all bounds)
       ∙ ap (λ it. accepted program it) (lines-on counted.lines move.standing there.standing next.line (item_lines more rest) stands)

@@ -1,14 +1,11 @@
 -- The reader of tokens and the grammar agree.
-use Rattle.std.proofs.Common.{◌≡◌, ℕ, true, List, [], refl, sym, ◌∙◌, ap, subst}
-use Rattle.ext_mean.specs.declared.codes.SyntaxCode.{SyntaxCode}
-use Rattle.ext_mean.specs.declared.token.Placed.{Placed}
-use Rattle.ext_mean.specs.declared.tree.Program.{Program}
+use Rattle.std.proofs.Common.{[], sym, ◌∙◌, ap, subst}
 use Rattle.ext_mean.specs.Derived.{program_tree}
 use Rattle.ext_mean.specs.Text.{item_lines}
 use Rattle.ext_mean.specs.Wording.{program_slots}
-use Rattle.ext_grammar.specs.Agreement.{AreSoundAlone, Make, First, ProgramsAreAccepted, AcceptedArePrograms, FaultsAreFirst}
+use Rattle.ext_grammar.specs.Agreement.{ProgramsAreAccepted, AcceptedArePrograms, FaultsAreFirst}
 use Rattle.ext_grammar.specs.Coming.{functions}
-use Rattle.ext_grammar.specs.Reading.{Ending, Answer, accepted, faulty, whole_answer}
+use Rattle.ext_grammar.specs.Reading.{Answer, accepted}
 use Rattle.ext_grammar.proofs.LedPrograms.{program-leads}
 use Rattle.ext_grammar.proofs.Reached.{start, none_counted}
 use Rattle.ext_grammar.proofs.Accepted.{followed}

@@ -1,5 +1,5 @@
 -- The tokens of a derivation without where they stand.
-use Rattle.std.proofs.Common.{◌≡◌, ℕ, ◌+◌, List, [], ◌∷◌, ◌++◌, refl, sym, ◌∙◌, ap, append_assoc, if◌then◌else◌}
+use Rattle.std.proofs.Common.{◌≡◌, ℕ, ◌+◌, List, [], ◌∷◌, ◌++◌, refl, ◌∙◌, ap, append_assoc, if◌then◌else◌}
 use Rattle.ext_mean.specs.declared.statement.Kind.{Kind}
 use Rattle.ext_mean.specs.declared.token.Mark.TheVariants as mark
 use Rattle.ext_mean.specs.declared.token.Token.{Token}
@@ -7,7 +7,7 @@ use Rattle.ext_mean.specs.declared.token.Token.TheVariants as token
 use Rattle.ext_mean.specs.declared.token.Word.TheVariants as word
 use Rattle.ext_mean.specs.Grammar.{Disjunction, Braces, open_end, returning, MoreStatements, end_statements, statement, Sentence, Arms, arms, MoreParameters, end_parameters, parameter, Parameters, no_parameters, parameters, Definition, function, MoreFunctions, end_functions, define, Whole, program}
 use Rattle.ext_mean.specs.Grammar as grammar
-use Rattle.ext_mean.specs.Wording.{inside, outside, Slot, slot, open_, close, open_block, close_block, comma, semicolon, colon, assigns, fn_token, kind_token, is_operator, operators, disjunction_tokens, arguments_tokens, going_on, return_slots, let_slots, writing_word, braces_slots, statements_slots, sentence_slots, arms_slots, more_parameters_slots, parameters_slots, definition_slots, more_functions_slots, program_slots, slot_tokens, program_tokens}
+use Rattle.ext_mean.specs.Wording.{inside, outside, Slot, slot, open_, close, open_block, close_block, comma, semicolon, colon, assigns, fn_token, kind_token, is_operator, operators, disjunction_tokens, arguments_tokens, going_on, return_slots, writing_word, braces_slots, statements_slots, sentence_slots, arms_slots, more_parameters_slots, parameters_slots, definition_slots, more_functions_slots, slot_tokens, program_tokens}
 
 abbrev mutual
   pub braces_tokens : Braces → List Token

@@ -1,12 +1,12 @@
 -- The tests of the bounds, and what they tell.
-use Rattle.std.proofs.Common.{◌≡◌, ◌<◌, ◌≤◌, ℕ, ◌&&◌, ◌||◌, ◌⊎◌, Bool, true, false, IsTrue, List, [], ◌∷◌, ◌++◌, Option, Some, None, nat_le, refl, sym, ◌∙◌, ap, subst, arith, inl, inr}
+use Rattle.std.proofs.Common.{◌≡◌, ◌<◌, ◌≤◌, ℕ, ◌&&◌, ◌||◌, ◌⊎◌, Bool, true, false, ◌∷◌, Option, Some, None, nat_le, refl, sym, ◌∙◌, ap, subst, arith, inl, inr}
 use Rattle.std.proofs.lemmas.Bool.{leb-true, leb-false}
 use Rattle.ext_mean.specs.declared.token.Token.{Token}
 use Rattle.ext_mean.specs.declared.token.Token.TheVariants as token
 use Rattle.ext_mean.specs.declared.token.Word.TheVariants as word
 use Rattle.ext_mean.specs.declared.tree.Program.{Program}
 use Rattle.ext_mean.specs.Bounds.{operators_at, IsNaming, IsAnyName}
-use Rattle.ext_mean.specs.Wording.{Standing, naming, fn_token, is_operator}
+use Rattle.ext_mean.specs.Wording.{Standing, naming, fn_token}
 use Rattle.ext_grammar.specs.Coming.{Coming, functions, Move}
 use Rattle.ext_grammar.specs.Reading.{open_operators, is_full_of_functions, is_full_of_locals}
 use Rattle.ext_grammar.proofs.Walks.{Ended, Takes}

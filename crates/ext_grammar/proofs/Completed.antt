@@ -1,19 +1,17 @@
 -- What was read begins a program of the grammar, whatever may follow.
-use Rattle.std.proofs.Common.{◌≡◌, ◌<◌, ◌≤◌, ℕ, ◌⊎◌, List, [], ◌∷◌, ◌++◌, refl, sym, ◌∙◌, ap, subst, append-nil, arith}
+use Rattle.std.proofs.Common.{◌≡◌, List, [], ◌++◌, sym, ◌∙◌, ap, subst}
 use Rattle.ext_mean.specs.declared.token.Placed.{Placed}
 use Rattle.ext_mean.specs.declared.token.Token.{Token}
-use Rattle.ext_mean.specs.declared.tree.Program.{Program}
-use Rattle.ext_mean.specs.Bounds.{AreBounded}
 use Rattle.ext_mean.specs.Derived.{program_tree}
 use Rattle.ext_mean.specs.Grammar.{Whole}
 use Rattle.ext_mean.specs.Tokens.{tokens_of}
-use Rattle.ext_mean.specs.Wording.{Slot, slot_tokens, program_slots, program_tokens}
+use Rattle.ext_mean.specs.Wording.{Slot, slot_tokens, program_slots}
 use Rattle.ext_grammar.specs.Agreement.{Begin}
 use Rattle.ext_grammar.specs.Coming.{Coming, functions}
 use Rattle.ext_grammar.specs.Reading.{Counted}
 use Rattle.ext_grammar.proofs.Walks.{Walk}
 use Rattle.ext_grammar.proofs.LedPrograms.{program-leads}
-use Rattle.ext_grammar.proofs.BareTokens.{whole_tokens, whole-are}
+use Rattle.ext_grammar.proofs.BareTokens.{whole-are}
 use Rattle.ext_grammar.proofs.Continuing.{Continues}
 use Rattle.ext_grammar.proofs.Completions.{some}
 use Rattle.ext_grammar.proofs.Reached.{Reached, split-slots, reached-tokens, reached-back, reached-decides, reached-bounded}

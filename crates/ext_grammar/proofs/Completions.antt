@@ -1,14 +1,11 @@
 -- From each state some tokens lead to the end of a program.
-use Rattle.std.proofs.Common.{◌≡◌, ℕ, List, [], ◌∷◌, ◌++◌, refl, inl, inr}
+use Rattle.std.proofs.Common.{List, [], ◌∷◌, refl, inl}
 use Rattle.ext_mean.specs.declared.statement.Kind.TheVariants as kind
-use Rattle.ext_mean.specs.declared.token.Mark.TheVariants as mark
 use Rattle.ext_mean.specs.declared.token.Token.{Token}
-use Rattle.ext_mean.specs.declared.token.Token.TheVariants as token
 use Rattle.ext_mean.specs.Grammar.{Disjunction, disjunction, end_or, conjunction, end_and, only, sum, end_sum, product, end_product, plain, number, end_arguments, no_arguments, Braces, open_end, end_statements, Arms, arms, end_parameters, no_parameters, function, end_functions, program}
-use Rattle.ext_mean.specs.Wording.{close, close_block, comma, semicolon, disjunction_tokens}
 use Rattle.ext_grammar.specs.Coming.{Level, disjoining, conjoining, comparing, adding, multiplying, AroundBlock, if_block, else_block, while_block, some_block, none_block, function_body, AroundStatement, in_block, AroundExpr, chain, right, negated, in_parentheses, only_operand, first_of_two, second_of_two, first_of_three, second_of_three, third_of_three, call_argument, let_value, assigned, if_test, while_test, get_table, get_key, multiget_table, multiget_keys, multiget_width, write_place, write_value, del_table, del_key, answered, returned, Coming, fixed, unary, primary, behind, view_name, let_name, let_kind, value, behind_name, first_argument, written_name, put_name, some_word, some_name, none_word, arms_end, braces, statements, last_brace, maybe_else, functions, function_name, first_parameter, parameter, parameter_kind, behind_parameter, result_kind, level_operand}
 use Rattle.ext_grammar.specs.Coming as coming
-use Rattle.ext_grammar.proofs.Continuing.{Reads, no_further, no_else, valued, AfterBlock, AfterStatement, AfterExpr, Continues}
+use Rattle.ext_grammar.proofs.Continuing.{no_further, no_else, valued, AfterBlock, AfterStatement, AfterExpr, Continues}
 
 -- the least of each
 abbrev nought : Disjunction

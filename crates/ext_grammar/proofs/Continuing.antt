@@ -6,8 +6,8 @@ use Rattle.ext_mean.specs.declared.token.Token.{Token}
 use Rattle.ext_mean.specs.declared.token.Token.TheVariants as token
 use Rattle.ext_mean.specs.declared.token.Word.TheVariants as word
 use Rattle.ext_mean.specs.Derived.{comparing_operator}
-use Rattle.ext_mean.specs.Grammar.{Comparing, Disjunction, MoreOr, MoreAnd, Sum, MoreSum, MoreProduct, Unary, Primary, MoreArguments, Arguments, Braces, open_end, returning, MoreStatements, Arms, arms, MoreParameters, Parameters, MoreFunctions, Whole}
-use Rattle.ext_mean.specs.Wording.{open_, close, open_block, close_block, comma, semicolon, colon, assigns, kind_token, disjunction_tokens, or_tokens, and_tokens, sum_tokens, add_tokens, multiply_tokens, unary_tokens, primary_tokens, more_arguments_tokens, arguments_tokens}
+use Rattle.ext_mean.specs.Grammar.{Comparing, Disjunction, MoreOr, MoreAnd, Sum, MoreSum, MoreProduct, Unary, Primary, MoreArguments, Arguments, Braces, open_end, returning, Arms, MoreParameters, Parameters, MoreFunctions, Whole}
+use Rattle.ext_mean.specs.Wording.{open_, close, close_block, comma, semicolon, colon, assigns, kind_token, disjunction_tokens, or_tokens, and_tokens, sum_tokens, add_tokens, multiply_tokens, unary_tokens, primary_tokens, more_arguments_tokens, arguments_tokens}
 use Rattle.ext_grammar.specs.Coming.{Level, disjoining, conjoining, comparing, adding, multiplying, AroundBlock, if_block, else_block, while_block, some_block, none_block, function_body, AroundStatement, in_block, AroundExpr, chain, right, negated, in_parentheses, only_operand, first_of_two, second_of_two, first_of_three, second_of_three, third_of_three, call_argument, let_value, assigned, if_test, while_test, get_table, get_key, multiget_table, multiget_keys, multiget_width, write_place, write_value, del_table, del_key, answered, returned, Coming, fixed, unary, primary, behind, view_name, let_name, let_kind, value, behind_name, first_argument, written_name, put_name, some_word, some_name, none_word, arms_end, braces, statements, last_brace, maybe_else, functions, function_name, first_parameter, parameter, parameter_kind, behind_parameter, result_kind, level_operand}
 use Rattle.ext_grammar.specs.Coming as coming
 use Rattle.ext_grammar.proofs.BareTokens.{braces_tokens, statements_tokens, arms_tokens, more_parameters_tokens, parameters_tokens, signature_end, more_functions_tokens, whole_tokens}

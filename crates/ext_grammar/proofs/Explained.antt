@@ -1,15 +1,14 @@
 -- What the reader answers of tokens is so: they are those of a program, or have that first fault.
-use Rattle.std.proofs.Common.{◌≡◌, ℕ, ◌&&◌, ◌||◌, ◌⊎◌, Bool, true, false, List, [], ◌∷◌, ◌++◌, Option, Some, None, nat_le, refl, sym, ◌∙◌, ap, subst, append_assoc, append-nil, inl, inr, if◌then◌else◌}
+use Rattle.std.proofs.Common.{◌≡◌, ℕ, ◌&&◌, ◌||◌, Bool, true, false, List, [], ◌∷◌, ◌++◌, Option, Some, None, nat_le, refl, sym, ◌∙◌, ap, subst, append_assoc, append-nil, inl, inr, if◌then◌else◌}
 use Rattle.std.proofs.lemmas.Bool.{leb-true}
-use Rattle.ext_mean.specs.declared.codes.SyntaxCode.{SyntaxCode}
 use Rattle.ext_mean.specs.declared.codes.SyntaxCode.TheVariants as code
 use Rattle.ext_mean.specs.declared.token.Placed.{Placed}
 use Rattle.ext_mean.specs.declared.tree.Function.{Function}
 use Rattle.ext_mean.specs.declared.tree.Program.{Program}
 use Rattle.ext_mean.specs.Bounds.{IsTooLong, IsTooDeep, IsBounded, AreBounded}
 use Rattle.ext_mean.specs.Derived.{program_tree}
-use Rattle.ext_mean.specs.Grammar.{Whole, end_functions}
-use Rattle.ext_mean.specs.SyntaxFaults.{HasCode, long, deep, many, expected, GoesOnTooMany}
+use Rattle.ext_mean.specs.Grammar.{end_functions}
+use Rattle.ext_mean.specs.SyntaxFaults.{many, expected, GoesOnTooMany}
 use Rattle.ext_mean.specs.Text.{item_lines}
 use Rattle.ext_mean.specs.Tokens.{tokens_of}
 use Rattle.ext_mean.specs.Wording.{Slot, slot, is_operator, program_slots, program_tokens}
@@ -17,7 +16,7 @@ use Rattle.ext_grammar.specs.Agreement.{AreSoundAlone, Make, First, at_token, at
 use Rattle.ext_grammar.specs.Coming.{Coming, functions, Move, on_token}
 use Rattle.ext_grammar.specs.Reading.{Counted, Ending, Answer, accepted, faulty, Met, goes, stops, met, met_by, open_operators, is_full_of_functions, is_full_of_locals, answer, answered}
 use Rattle.ext_grammar.specs.Reading as reading
-use Rattle.ext_grammar.proofs.Walks.{Walk, Ended}
+use Rattle.ext_grammar.proofs.Walks.{Ended}
 use Rattle.ext_grammar.proofs.BareTokens.{whole-are}
 use Rattle.ext_grammar.proofs.Reached.{Reached, start, onward, counting, none_counted, reached-back, reached-bounded, reached-counts}
 use Rattle.ext_grammar.proofs.Completed.{begun, fitting}
@@ -72,8 +71,8 @@ module _ (all : List Placed) (ending : Ending) where
     moved-so : (full : Bool) (move : Move) → on_token coming before next.token ≡ Some move → is_operator next.token && nat_le 64 before ≡ false → is_full_of_functions counted.functions next.token || is_full_of_locals counted.locals move.standing ≡ full → (IsBounded slots (slot next.token move.standing) → Explains (answer move.coming (counting counted next move) ending rest)) → Explains (answered (if full then stops next.line code.Many else goes move.coming (counting counted next move)) onwards)
     moved-so true move moved few full again =
         elim (either-true (is_full_of_functions counted.functions next.token) (is_full_of_locals counted.locals move.standing) full) [
-          inl one ↦ too-many (many-functions placed coming counted slots reached next.token move moved one)
-        | inr one ↦ too-many (many-locals placed coming counted slots reached next.token move moved one)
+          | inl one ↦ too-many (many-functions placed coming counted slots reached next.token move moved one)
+          | inr one ↦ too-many (many-locals placed coming counted slots reached next.token move moved one)
         ]
     moved-so false move moved few full again =
         let (one, two) = neither-true (is_full_of_functions counted.functions next.token) (is_full_of_locals counted.locals move.standing) full in

@@ -1,5 +1,5 @@
 -- Why a token that is refused is a fault, and which.
-use Rattle.std.proofs.Common.{◌≡◌, ◌<◌, ◌≤◌, ℕ, ◌&&◌, ◌⊎◌, Bool, true, false, IsTrue, List, [], ◌∷◌, ◌++◌, Option, Some, None, nat_le, refl, sym, ◌∙◌, ap, subst, append_assoc, append-nil, arith, inl, inr}
+use Rattle.std.proofs.Common.{◌≡◌, ◌≤◌, ℕ, ◌&&◌, true, false, IsTrue, List, [], ◌∷◌, ◌++◌, Option, Some, None, nat_le, refl, sym, ◌∙◌, ap, subst, append_assoc, arith, inl, inr}
 use Rattle.ext_mean.specs.declared.token.Placed.{Placed}
 use Rattle.ext_mean.specs.declared.token.Token.{Token}
 use Rattle.ext_mean.specs.declared.token.Token.TheVariants as token
@@ -8,17 +8,16 @@ use Rattle.ext_mean.specs.Derived.{program_tree}
 use Rattle.ext_mean.specs.Grammar.{Whole}
 use Rattle.ext_mean.specs.SyntaxFaults.{GoesOnTooMany, IsBeginning}
 use Rattle.ext_mean.specs.Tokens.{tokens_of}
-use Rattle.ext_mean.specs.Wording.{Slot, slot, Standing, fn_token, is_operator, slot_tokens, program_slots}
+use Rattle.ext_mean.specs.Wording.{Slot, slot, Standing, is_operator, slot_tokens, program_slots}
 use Rattle.ext_grammar.specs.Coming.{Coming, Move, on_token}
 use Rattle.ext_grammar.specs.Reading.{Counted, open_operators, is_full_of_functions, is_full_of_locals}
 use Rattle.ext_grammar.proofs.Walks.{Takes, Walk}
-use Rattle.ext_grammar.proofs.Continuing.{Continues}
 use Rattle.ext_grammar.proofs.Completions.{some}
 use Rattle.ext_grammar.proofs.Steps.{step}
 use Rattle.ext_grammar.proofs.Kept.{Kept}
 use Rattle.ext_grammar.proofs.KeptByTokens.{keeps, any-name}
 use Rattle.ext_grammar.proofs.Reached.{Reached, split-slots, takes-move, then-move, kept-move, reached-tokens, reached-zeroed, reached-counts}
-use Rattle.ext_grammar.proofs.Completed.{Completed, fitting, completed}
+use Rattle.ext_grammar.proofs.Completed.{fitting, completed}
 use Rattle.ext_grammar.proofs.Bounding.{not-both, le-true, functions-full, functions-room, locals-full, locals-room, taken-operators, taken-name, ended-zero}
 
 module _ (placed : List Placed) (coming : Coming) (counted : Counted) (slots : List Slot) (reached : Reached placed coming counted slots) (next : Token) where
@@ -39,9 +38,11 @@ module _ (placed : List Placed) (coming : Coming) (counted : Counted) (slots : L
     rest = rest;
     slots = split;
     behind = reached-tokens reached;
-    many = inr (inr (operator,
-        (let same : operators_at there.standing ≡ before = taken-operators coming before there.token (on_token coming before there.token) there.standing _ (kept there.token) walk in
-        omega arith)));
+    many = inr (inr (
+      operator,
+      (let same : operators_at there.standing ≡ before = taken-operators coming before there.token (on_token coming before there.token) there.standing _ (kept there.token) walk in
+          omega arith),
+    ));
   }
 
   pub many-operators : IsTrue (is_operator next) → 64 ≤ before → GoesOnTooMany (tokens_of placed) next

@@ -1,5 +1,5 @@
 -- Parts of an expression that were read one behind the other are one.
-use Rattle.std.proofs.Common.{◌≡◌, ℕ, Bool, true, false, List, [], ◌∷◌, ◌++◌, Option, Some, None, refl, sym, ◌∙◌, ap, append_assoc, append-nil, if◌then◌else◌}
+use Rattle.std.proofs.Common.{◌≡◌, ℕ, Bool, true, false, List, ◌++◌, Option, Some, None, refl, sym, ◌∙◌, ap, append_assoc, append-nil, if◌then◌else◌}
 use Rattle.ext_mean.specs.declared.statement.Kind.{Kind}
 use Rattle.ext_mean.specs.declared.statement.Kind.TheVariants as kind
 use Rattle.ext_mean.specs.declared.token.Mark.{Mark}
@@ -9,7 +9,7 @@ use Rattle.ext_mean.specs.declared.token.Token.TheVariants as token
 use Rattle.ext_mean.specs.declared.token.Word.TheVariants as word
 use Rattle.ext_mean.specs.Grammar.{Disjunction, disjunction, Conjunction, conjunction, Comparison, only, compared, Sum, sum, Product, product}
 use Rattle.ext_mean.specs.Wording.{kind_token, disjunction_tokens, conjunction_tokens, comparison_tokens, sum_tokens, product_tokens}
-use Rattle.ext_grammar.specs.Coming.{disjoining, conjoining, comparing, adding, multiplying, AroundExpr, chain, Coming, unary, side, level_operand, Move, is_mark, on_mark, on_some, name_of, kind_of}
+use Rattle.ext_grammar.specs.Coming.{disjoining, conjoining, comparing, adding, AroundExpr, chain, unary, side, level_operand, Move, is_mark, on_mark, on_some, name_of, kind_of}
 use Rattle.ext_grammar.proofs.Continuing.{Reads, Further, no_further, further, further_tokens, AfterExpr, Continues}
 
 -- the state behind a token, if it may come, goes on with these

@@ -1,17 +1,15 @@
 -- What each step of the reader keeps: the operators that it counts are those of the token's place, no
 -- item is open between two statements, and a local is named only where any name would name one.
-use Rattle.std.proofs.Common.{◌≡◌, ℕ, Bool, true, false, List, Option, Some, None, refl, sym, if◌then◌else◌}
+use Rattle.std.proofs.Common.{◌≡◌, ℕ, Bool, true, false, List, Option, Some, None, refl, if◌then◌else◌}
 use Rattle.ext_mean.specs.declared.expr.BinOp.{BinOp}
 use Rattle.ext_mean.specs.declared.expr.Expr.{Expr}
-use Rattle.ext_mean.specs.declared.expr.Expr.TheVariants as expr
 use Rattle.ext_mean.specs.declared.statement.Block.{Block}
-use Rattle.ext_mean.specs.declared.statement.Kind.{Kind}
 use Rattle.ext_mean.specs.declared.statement.Statement.{Statement}
 use Rattle.ext_mean.specs.declared.token.Mark.{Mark}
 use Rattle.ext_mean.specs.declared.token.Token.{Token}
 use Rattle.ext_mean.specs.declared.token.Token.TheVariants as token
 use Rattle.ext_mean.specs.Bounds.{operators_at, IsNaming, IsAnyName}
-use Rattle.ext_grammar.specs.Coming.{AroundBlock, if_block, else_block, while_block, some_block, none_block, function_body, AroundStatement, in_block, Coming, fixed, statements, last_brace, maybe_else, functions, let_name, some_name, first_parameter, parameter, Level, Move, on_mark, on_some, name_of, kind_of, on_chain, on_longer_chain, is_level, level_of, disjoining, conjoining, comparing, adding, multiplying, AroundExpr, done, closed}
+use Rattle.ext_grammar.specs.Coming.{AroundBlock, if_block, else_block, while_block, some_block, none_block, function_body, AroundStatement, in_block, Coming, fixed, statements, last_brace, maybe_else, functions, let_name, some_name, first_parameter, parameter, Level, Move, on_mark, on_some, name_of, on_chain, on_longer_chain, is_level, level_of, disjoining, conjoining, comparing, adding, multiplying, AroundExpr, done, closed}
 
 -- no operator is counted between two items
 abbrev pub Zeroed : Coming → ℕ → Type 0

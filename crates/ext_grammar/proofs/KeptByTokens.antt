@@ -1,11 +1,10 @@
 -- Each token keeps the counts.
-use Rattle.std.proofs.Common.{◌≡◌, ℕ, List, [], ◌∷◌, ◌++◌, Option, Some, None, refl, sym}
+use Rattle.std.proofs.Common.{◌≡◌, ℕ, List, [], ◌∷◌, ◌++◌, None, refl, sym}
 use Rattle.ext_mean.specs.declared.expr.Expr.{Expr}
 use Rattle.ext_mean.specs.declared.expr.Expr.TheVariants as expr
 use Rattle.ext_mean.specs.declared.statement.Block.{Block}
 use Rattle.ext_mean.specs.declared.statement.Kind.{Kind}
 use Rattle.ext_mean.specs.declared.statement.Statement.{Statement}
-use Rattle.ext_mean.specs.declared.statement.Statement.TheVariants as does
 use Rattle.ext_mean.specs.declared.token.Mark.TheVariants as mark
 use Rattle.ext_mean.specs.declared.token.Token.{Token}
 use Rattle.ext_mean.specs.declared.token.Token.TheVariants as token
@@ -13,7 +12,6 @@ use Rattle.ext_mean.specs.declared.token.Word.TheVariants as word
 use Rattle.ext_mean.specs.declared.tree.Function.{Function}
 use Rattle.ext_mean.specs.declared.tree.Param.{Param}
 use Rattle.ext_mean.specs.Derived.{block_of}
-use Rattle.ext_mean.specs.Bounds.{operators_at, IsNaming, IsAnyName}
 use Rattle.ext_grammar.specs.Coming.{Level, AroundBlock, AroundStatement, in_block, AroundExpr, chain, right, negated, in_parentheses, only_operand, first_of_two, second_of_two, first_of_three, second_of_three, third_of_three, call_argument, let_value, assigned, if_test, while_test, get_table, get_key, multiget_table, multiget_keys, multiget_width, write_place, write_value, del_table, del_key, answered, returned, Looking, Coming, fixed, unary, primary, behind, view_name, let_name, let_kind, value, behind_name, first_argument, written_name, put_name, some_word, some_name, none_word, arms_end, braces, statements, last_brace, maybe_else, functions, function_name, first_parameter, parameter, parameter_kind, behind_parameter, result_kind, level_operand, Move, operator_of, kind_of, name_of, is_mark, on_primary, on_unary, on_behind, on_statement, on_statements, on_done, on_else, on_value, on_behind_name, on_first_argument, on_some_word, on_none_word, on_functions, on_first_parameter, on_behind_parameter, on_token, done, closed, opens}
 use Rattle.ext_grammar.specs.Coming as coming
 use Rattle.ext_grammar.specs.Reading.{open_operators}

@@ -1,5 +1,5 @@
 -- What tokens inside an item lead to, and where operators may follow an expression.
-use Rattle.std.proofs.Common.{◌≡◌, ◌<◌, ◌≤◌, ℕ, Bool, true, false, List, [], ◌∷◌, ◌++◌, Option, Some, None, refl, sym, ◌∙◌, ap, subst, arith, if◌then◌else◌}
+use Rattle.std.proofs.Common.{◌≡◌, ◌<◌, ◌≤◌, ℕ, Bool, true, false, List, [], ◌∷◌, ◌++◌, Option, None, refl, ap, subst, arith, if◌then◌else◌}
 use Rattle.ext_mean.specs.declared.expr.BinOp.{BinOp}
 use Rattle.ext_mean.specs.declared.expr.Expr.{Expr}
 use Rattle.ext_mean.specs.declared.expr.Expr.TheVariants as expr
@@ -7,7 +7,7 @@ use Rattle.ext_mean.specs.declared.token.Token.{Token}
 use Rattle.ext_mean.specs.declared.token.Token.TheVariants as token
 use Rattle.ext_mean.specs.declared.tree.Program.{Program}
 use Rattle.ext_mean.specs.Wording.{Standing, Slot}
-use Rattle.ext_grammar.specs.Coming.{Level, disjoining, conjoining, comparing, adding, multiplying, level_of, is_level, AroundExpr, chain, right, negated, Coming, behind, Move, operates, side, unary, on_behind, on_chain, on_token}
+use Rattle.ext_grammar.specs.Coming.{Level, disjoining, conjoining, comparing, adding, multiplying, level_of, is_level, AroundExpr, chain, right, negated, Coming, behind, Move, on_behind}
 use Rattle.ext_grammar.proofs.Walks.{Takes, Walk, counted, counted-append, goes, goes-append}
 
 -- these tokens of an item lead from here to there, whatever program they are in

@@ -1,5 +1,5 @@
 -- The tokens of an item lead to the place behind it, where no operator is counted.
-use Rattle.std.proofs.Common.{◌≡◌, ℕ, ◌+◌, List, [], ◌∷◌, ◌++◌, Option, Some, refl, sym, ap, append_assoc, arith, subst}
+use Rattle.std.proofs.Common.{◌≡◌, ℕ, List, [], ◌∷◌, ◌++◌, Option, refl, sym, append_assoc, subst}
 use Rattle.ext_mean.specs.declared.expr.Expr.{Expr}
 use Rattle.ext_mean.specs.declared.expr.Expr.TheVariants as expr
 use Rattle.ext_mean.specs.declared.statement.Kind.{Kind}
@@ -13,7 +13,7 @@ use Rattle.ext_mean.specs.declared.token.Word.TheVariants as word
 use Rattle.ext_mean.specs.declared.tree.Program.{Program}
 use Rattle.ext_mean.specs.Derived.{disjunction_tree, more_arguments_tree, arguments_tree, write_tree}
 use Rattle.ext_mean.specs.Grammar.{Disjunction, MoreArguments, end_arguments, argument, Arguments, no_arguments, arguments, Writing, set, set8, copy}
-use Rattle.ext_mean.specs.Wording.{Standing, inside, begins, Slot, slot, open_, close, comma, semicolon, colon, assigns, kind_token, disjunction_tokens, more_arguments_tokens, arguments_tokens, let_slots, item, going_on, writing_word}
+use Rattle.ext_mean.specs.Wording.{Standing, Slot, open_, close, comma, semicolon, colon, assigns, kind_token, disjunction_tokens, more_arguments_tokens, arguments_tokens, let_slots, item, going_on, writing_word}
 use Rattle.ext_grammar.specs.Coming.{AroundExpr, AroundStatement, AroundBlock, in_block, call_argument, let_value, assigned, write_place, write_value, del_table, del_key, answered, Coming, fixed, behind, value, behind_name, first_argument, written_name, statements, expression, level_operand, Move, on_some, kind_of, on_unary, on_behind, on_value, on_behind_name, on_first_argument, on_token, done}
 use Rattle.ext_grammar.specs.Coming as coming
 use Rattle.ext_grammar.proofs.Walks.{Takes, Walk, counted, goes, goes-append, goes-is}
@@ -77,16 +77,18 @@ module _ (program : Program) where
 
   more-arguments-lead : (more : MoreArguments) (name : List ℕ) (of : Kind) (called : List ℕ) (values : List Expr) (found : Expr) (around : AroundStatement) → Leads program (more_arguments_tokens more ++ close ∷ []) (behind found (call_argument name of called values around)) (call name of called (values ++ found ∷ more_arguments_tree more) around)
   more-arguments-lead end_arguments name of called values found around = λ before rest walk. (refl, walk)
-  more-arguments-lead (argument next more) name of called values found around = λ before rest walk.
-      (refl, rw (append_assoc (disjunction_tokens next) (more_arguments_tokens more) (close ∷ []))
-      (join program (disjunction_tokens next) (more_arguments_tokens more ++ close ∷ []) _
-      (behind (disjunction_tree next) (call_argument name of called (values ++ found ∷ []) around))
-      (call name of called ((values ++ found ∷ []) ++ disjunction_tree next ∷ more_arguments_tree more) around)
-      (disjunction-leads program next (call_argument name of called (values ++ found ∷ []) around) tt)
-      (more-arguments-lead more name of called (values ++ found ∷ []) (disjunction_tree next) around)
-      before rest
-      (rw (append_assoc values (found ∷ []) (disjunction_tree next ∷ more_arguments_tree more))
-      (rw (append_assoc (disjunction_tokens next) (more_arguments_tokens more) (close ∷ [])) at walk))))
+  more-arguments-lead (argument next more) name of called values found around = λ before rest walk. (
+    refl,
+    rw (append_assoc (disjunction_tokens next) (more_arguments_tokens more) (close ∷ []))
+        (join program (disjunction_tokens next) (more_arguments_tokens more ++ close ∷ []) _
+        (behind (disjunction_tree next) (call_argument name of called (values ++ found ∷ []) around))
+        (call name of called ((values ++ found ∷ []) ++ disjunction_tree next ∷ more_arguments_tree more) around)
+        (disjunction-leads program next (call_argument name of called (values ++ found ∷ []) around) tt)
+        (more-arguments-lead more name of called (values ++ found ∷ []) (disjunction_tree next) around)
+        before rest
+        (rw (append_assoc values (found ∷ []) (disjunction_tree next ∷ more_arguments_tree more))
+        (rw (append_assoc (disjunction_tokens next) (more_arguments_tokens more) (close ∷ [])) at walk))),
+  )
 
   arguments-lead : (all : Arguments) (name : List ℕ) (of : Kind) (called : List ℕ) (around : AroundStatement) → Leads program (arguments_tokens all ++ close ∷ []) (first_argument name of called around) (call name of called (arguments_tree all) around)
   arguments-lead no_arguments name of called around = λ before rest walk. (refl, walk)
@@ -111,9 +113,14 @@ module _ (program : Program) where
 
   -- the sentences without blocks
   let-lead : (name : List ℕ) (of : Kind) (tokens : List Token) (to : Coming) (rest : List Slot) (known : List Statement) (block : AroundBlock) → Closes program (tokens ++ semicolon ∷ []) (value name of (in_block known block)) to → Walk rest to 0 program → Walk (let_slots name of tokens ++ rest) (statements known block) 0 program
-  let-lead name of tokens to rest known block closes walk =
-      (refl, (refl, item-goes (colon ∷ kind_token of ∷ assigns ∷ (tokens ++ semicolon ∷ [])) (fixed mark.Colon (coming.let_kind name (in_block known block))) to rest
-      (λ before rest walk. (refl, kind-step of _ _ _ (refl, (refl, closes before rest walk)))) walk))
+  let-lead name of tokens to rest known block closes walk = (
+    refl,
+    (
+      refl,
+      item-goes (colon ∷ kind_token of ∷ assigns ∷ (tokens ++ semicolon ∷ [])) (fixed mark.Colon (coming.let_kind name (in_block known block))) to rest
+          (λ before rest walk. (refl, kind-step of _ _ _ (refl, (refl, closes before rest walk)))) walk,
+    ),
+  )
 
   pub let_value-leads : (name : List ℕ) (of : Kind) (whole : Disjunction) (rest : List Slot) (known : List Statement) (block : AroundBlock) → Walk rest (done (does.Let name of (disjunction_tree whole)) (in_block known block)) 0 program → Walk (let_slots name of (disjunction_tokens whole) ++ rest) (statements known block) 0 program
   let_value-leads name of whole rest known block walk =
@@ -126,54 +133,97 @@ module _ (program : Program) where
   pub let_call-leads : (name : List ℕ) (of : Kind) (called : List ℕ) (values : Arguments) (rest : List Slot) (known : List Statement) (block : AroundBlock) → Walk rest (done (does.LetCall name of called (arguments_tree values)) (in_block known block)) 0 program → Walk (let_slots name of (token.Name called ∷ open_ ∷ (arguments_tokens values ++ close ∷ [])) ++ rest) (statements known block) 0 program
   let_call-leads name of called values rest known block walk =
       let-lead name of (token.Name called ∷ open_ ∷ (arguments_tokens values ++ close ∷ [])) _ rest known block
-      (λ before rest walk. (refl, (refl, join-closing (arguments_tokens values ++ close ∷ []) (semicolon ∷ []) _
-      (call name of called (arguments_tree values) (in_block known block)) _
-      (arguments-lead values name of called (in_block known block))
-      (λ before rest walk. (refl, walk)) before rest walk))) walk
+      (λ before rest walk. (
+        refl,
+        (
+          refl,
+          join-closing (arguments_tokens values ++ close ∷ []) (semicolon ∷ []) _
+              (call name of called (arguments_tree values) (in_block known block)) _
+              (arguments-lead values name of called (in_block known block))
+              (λ before rest walk. (refl, walk)) before rest walk,
+        ),
+      )) walk
 
   pub assign-leads : (name : List ℕ) (whole : Disjunction) (rest : List Slot) (known : List Statement) (block : AroundBlock) → Walk rest (done (does.Assign name (disjunction_tree whole)) (in_block known block)) 0 program → Walk (item (token.Name name) (assigns ∷ (disjunction_tokens whole ++ semicolon ∷ [])) ++ rest) (statements known block) 0 program
-  assign-leads name whole rest known block walk =
-      (refl, item-goes (assigns ∷ (disjunction_tokens whole ++ semicolon ∷ [])) (fixed mark.Assign (expression (assigned name (in_block known block)))) (done (does.Assign name (disjunction_tree whole)) (in_block known block)) rest
-      (λ before rest walk. (refl, closing (semicolon ∷ []) whole (assigned name (in_block known block)) _
-      (disjunction-leads program whole (assigned name (in_block known block)) tt)
-      (λ before rest walk. (refl, walk)) before rest walk)) walk)
+  assign-leads name whole rest known block walk = (
+    refl,
+    item-goes (assigns ∷ (disjunction_tokens whole ++ semicolon ∷ [])) (fixed mark.Assign (expression (assigned name (in_block known block)))) (done (does.Assign name (disjunction_tree whole)) (in_block known block)) rest
+        (λ before rest walk. (
+          refl,
+          closing (semicolon ∷ []) whole (assigned name (in_block known block)) _
+              (disjunction-leads program whole (assigned name (in_block known block)) tt)
+              (λ before rest walk. (refl, walk)) before rest walk,
+        )) walk,
+  )
 
   pub resp-leads : (whole : Disjunction) (rest : List Slot) (known : List Statement) (block : AroundBlock) → Walk rest (done (does.Resp (disjunction_tree whole)) (in_block known block)) 0 program → Walk (item (token.Word word.Resp) (open_ ∷ (disjunction_tokens whole ++ close ∷ semicolon ∷ [])) ++ rest) (statements known block) 0 program
-  resp-leads whole rest known block walk =
-      (refl, item-goes (open_ ∷ (disjunction_tokens whole ++ close ∷ semicolon ∷ [])) (fixed mark.Open (expression (answered (in_block known block)))) (done (does.Resp (disjunction_tree whole)) (in_block known block)) rest
-      (λ before rest walk. (refl, closing (close ∷ semicolon ∷ []) whole (answered (in_block known block)) _
-      (disjunction-leads program whole (answered (in_block known block)) tt)
-      (λ before rest walk. (refl, (refl, walk))) before rest walk)) walk)
+  resp-leads whole rest known block walk = (
+    refl,
+    item-goes (open_ ∷ (disjunction_tokens whole ++ close ∷ semicolon ∷ [])) (fixed mark.Open (expression (answered (in_block known block)))) (done (does.Resp (disjunction_tree whole)) (in_block known block)) rest
+        (λ before rest walk. (
+          refl,
+          closing (close ∷ semicolon ∷ []) whole (answered (in_block known block)) _
+              (disjunction-leads program whole (answered (in_block known block)) tt)
+              (λ before rest walk. (refl, (refl, walk))) before rest walk,
+        )) walk,
+  )
 
   pub put-leads : (name : List ℕ) (rest : List Slot) (known : List Statement) (block : AroundBlock) → Walk rest (done (does.Put name) (in_block known block)) 0 program → Walk (item (token.Word word.Put) (open_ ∷ token.Name name ∷ close ∷ semicolon ∷ []) ++ rest) (statements known block) 0 program
-  put-leads name rest known block walk =
-      (refl, item-goes (open_ ∷ token.Name name ∷ close ∷ semicolon ∷ []) (fixed mark.Open (coming.put_name (in_block known block))) (done (does.Put name) (in_block known block)) rest
-      (λ before rest walk. (refl, (refl, (refl, (refl, walk))))) walk)
+  put-leads name rest known block walk = (
+    refl,
+    item-goes (open_ ∷ token.Name name ∷ close ∷ semicolon ∷ []) (fixed mark.Open (coming.put_name (in_block known block))) (done (does.Put name) (in_block known block)) rest
+        (λ before rest walk. (refl, (refl, (refl, (refl, walk))))) walk,
+  )
 
   pub del-leads : (table key : Disjunction) (rest : List Slot) (known : List Statement) (block : AroundBlock) → Walk rest (done (does.Del (disjunction_tree table) (disjunction_tree key)) (in_block known block)) 0 program → Walk (item (token.Word word.Del) (open_ ∷ (disjunction_tokens table ++ comma ∷ (disjunction_tokens key ++ close ∷ semicolon ∷ []))) ++ rest) (statements known block) 0 program
-  del-leads table key rest known block walk =
-      (refl, item-goes (open_ ∷ (disjunction_tokens table ++ comma ∷ (disjunction_tokens key ++ close ∷ semicolon ∷ []))) (fixed mark.Open (expression (del_table (in_block known block)))) (done (does.Del (disjunction_tree table) (disjunction_tree key)) (in_block known block)) rest
-      (λ before rest walk. (refl, closing (comma ∷ (disjunction_tokens key ++ close ∷ semicolon ∷ [])) table (del_table (in_block known block)) _
-      (disjunction-leads program table (del_table (in_block known block)) tt)
-      (λ before rest walk. (refl, closing (close ∷ semicolon ∷ []) key (del_key (disjunction_tree table) (in_block known block)) _
-      (disjunction-leads program key (del_key (disjunction_tree table) (in_block known block)) tt)
-      (λ before rest walk. (refl, (refl, walk))) before rest walk)) before rest walk)) walk)
+  del-leads table key rest known block walk = (
+    refl,
+    item-goes (open_ ∷ (disjunction_tokens table ++ comma ∷ (disjunction_tokens key ++ close ∷ semicolon ∷ []))) (fixed mark.Open (expression (del_table (in_block known block)))) (done (does.Del (disjunction_tree table) (disjunction_tree key)) (in_block known block)) rest
+        (λ before rest walk. (
+          refl,
+          closing (comma ∷ (disjunction_tokens key ++ close ∷ semicolon ∷ [])) table (del_table (in_block known block)) _
+              (disjunction-leads program table (del_table (in_block known block)) tt)
+              (λ before rest walk. (
+                refl,
+                closing (close ∷ semicolon ∷ []) key (del_key (disjunction_tree table) (in_block known block)) _
+                    (disjunction-leads program key (del_key (disjunction_tree table) (in_block known block)) tt)
+                    (λ before rest walk. (refl, (refl, walk))) before rest walk,
+              )) before rest walk,
+        )) walk,
+  )
 
   written : (writing : Writing) (name : List ℕ) (place whole : Disjunction) (around : AroundStatement) → Closes program (open_ ∷ token.Name name ∷ comma ∷ (disjunction_tokens place ++ comma ∷ (disjunction_tokens whole ++ close ∷ semicolon ∷ []))) (fixed mark.Open (written_name writing around)) (done (write_tree writing name (disjunction_tree place) (disjunction_tree whole)) around)
-  written writing name place whole around before rest walk =
-      (refl, (refl, (refl, closing (comma ∷ (disjunction_tokens whole ++ close ∷ semicolon ∷ [])) place (write_place writing name around) _
-      (disjunction-leads program place (write_place writing name around) tt)
-      (λ before rest walk. (refl, closing (close ∷ semicolon ∷ []) whole (write_value writing name (disjunction_tree place) around) _
-      (disjunction-leads program whole (write_value writing name (disjunction_tree place) around) tt)
-      (λ before rest walk. (refl, (refl, walk))) before rest walk)) before rest walk)))
+  written writing name place whole around before rest walk = (
+    refl,
+    (
+      refl,
+      (
+        refl,
+        closing (comma ∷ (disjunction_tokens whole ++ close ∷ semicolon ∷ [])) place (write_place writing name around) _
+            (disjunction-leads program place (write_place writing name around) tt)
+            (λ before rest walk. (
+              refl,
+              closing (close ∷ semicolon ∷ []) whole (write_value writing name (disjunction_tree place) around) _
+                  (disjunction-leads program whole (write_value writing name (disjunction_tree place) around) tt)
+                  (λ before rest walk. (refl, (refl, walk))) before rest walk,
+            )) before rest walk,
+      ),
+    ),
+  )
 
   pub write-leads : (writing : Writing) (name : List ℕ) (place whole : Disjunction) (rest : List Slot) (known : List Statement) (block : AroundBlock) → Walk rest (done (write_tree writing name (disjunction_tree place) (disjunction_tree whole)) (in_block known block)) 0 program → Walk (item (token.Word (writing_word writing)) (open_ ∷ token.Name name ∷ comma ∷ (disjunction_tokens place ++ comma ∷ (disjunction_tokens whole ++ close ∷ semicolon ∷ []))) ++ rest) (statements known block) 0 program
-  write-leads set name place whole rest known block walk =
-      (refl, item-goes (open_ ∷ token.Name name ∷ comma ∷ (disjunction_tokens place ++ comma ∷ (disjunction_tokens whole ++ close ∷ semicolon ∷ []))) (fixed mark.Open (written_name set (in_block known block))) (done (write_tree set name (disjunction_tree place) (disjunction_tree whole)) (in_block known block)) rest
-      (written set name place whole (in_block known block)) walk)
-  write-leads set8 name place whole rest known block walk =
-      (refl, item-goes (open_ ∷ token.Name name ∷ comma ∷ (disjunction_tokens place ++ comma ∷ (disjunction_tokens whole ++ close ∷ semicolon ∷ []))) (fixed mark.Open (written_name set8 (in_block known block))) (done (write_tree set8 name (disjunction_tree place) (disjunction_tree whole)) (in_block known block)) rest
-      (written set8 name place whole (in_block known block)) walk)
-  write-leads copy name place whole rest known block walk =
-      (refl, item-goes (open_ ∷ token.Name name ∷ comma ∷ (disjunction_tokens place ++ comma ∷ (disjunction_tokens whole ++ close ∷ semicolon ∷ []))) (fixed mark.Open (written_name copy (in_block known block))) (done (write_tree copy name (disjunction_tree place) (disjunction_tree whole)) (in_block known block)) rest
-      (written copy name place whole (in_block known block)) walk)
+  write-leads set name place whole rest known block walk = (
+    refl,
+    item-goes (open_ ∷ token.Name name ∷ comma ∷ (disjunction_tokens place ++ comma ∷ (disjunction_tokens whole ++ close ∷ semicolon ∷ []))) (fixed mark.Open (written_name set (in_block known block))) (done (write_tree set name (disjunction_tree place) (disjunction_tree whole)) (in_block known block)) rest
+        (written set name place whole (in_block known block)) walk,
+  )
+  write-leads set8 name place whole rest known block walk = (
+    refl,
+    item-goes (open_ ∷ token.Name name ∷ comma ∷ (disjunction_tokens place ++ comma ∷ (disjunction_tokens whole ++ close ∷ semicolon ∷ []))) (fixed mark.Open (written_name set8 (in_block known block))) (done (write_tree set8 name (disjunction_tree place) (disjunction_tree whole)) (in_block known block)) rest
+        (written set8 name place whole (in_block known block)) walk,
+  )
+  write-leads copy name place whole rest known block walk = (
+    refl,
+    item-goes (open_ ∷ token.Name name ∷ comma ∷ (disjunction_tokens place ++ comma ∷ (disjunction_tokens whole ++ close ∷ semicolon ∷ []))) (fixed mark.Open (written_name copy (in_block known block))) (done (write_tree copy name (disjunction_tree place) (disjunction_tree whole)) (in_block known block)) rest
+        (written copy name place whole (in_block known block)) walk,
+  )

@@ -1,5 +1,5 @@
 -- The tokens of blocks and statements lead to the place behind them, with their trees.
-use Rattle.std.proofs.Common.{◌≡◌, ℕ, ◌+◌, List, [], ◌∷◌, ◌++◌, refl, sym, ◌∙◌, ap, subst, zero-add, add_assoc, append_assoc, append-nil, arith}
+use Rattle.std.proofs.Common.{◌≡◌, ℕ, ◌+◌, List, [], ◌∷◌, ◌++◌, refl, sym, ◌∙◌, ap, subst, zero-add, add_assoc, append_assoc, append-nil}
 use Rattle.ext_mean.specs.declared.expr.Expr.{Expr}
 use Rattle.ext_mean.specs.declared.statement.Block.{Block}
 use Rattle.ext_mean.specs.declared.statement.Statement.{Statement}
@@ -12,13 +12,13 @@ use Rattle.ext_mean.specs.declared.tree.Program.{Program}
 use Rattle.ext_mean.specs.Derived.{block_of, disjunction_tree, braces_tree, statements_tree, sentence_tree, arms_tree}
 use Rattle.ext_mean.specs.Grammar.{Disjunction, Braces, open_end, returning, MoreStatements, end_statements, statement, Sentence, Arms, arms}
 use Rattle.ext_mean.specs.Grammar as grammar
-use Rattle.ext_mean.specs.Wording.{Standing, inside, outside, Slot, slot, open_, close, comma, semicolon, open_block, close_block, operators, disjunction_tokens, braces_slots, statements_slots, sentence_slots, arms_slots, return_slots, going_on}
+use Rattle.ext_mean.specs.Wording.{Standing, inside, outside, Slot, slot, open_, close, comma, semicolon, close_block, operators, disjunction_tokens, braces_slots, statements_slots, sentence_slots, arms_slots, return_slots, going_on}
 use Rattle.ext_grammar.specs.Coming.{AroundExpr, AroundStatement, AroundBlock, in_block, if_block, else_block, while_block, some_block, none_block, if_test, while_test, get_table, get_key, multiget_table, multiget_keys, multiget_width, returned, Looking, looking_statement, Coming, fixed, behind, braces, statements, maybe_else, some_word, expression, on_else, on_done, on_token, done, closed}
 use Rattle.ext_grammar.specs.Coming as coming
-use Rattle.ext_grammar.proofs.Walks.{Takes, Walk, counted, counted-append, counted-is, goes, goes-append, goes-is}
-use Rattle.ext_grammar.proofs.Leading.{Leads, join}
+use Rattle.ext_grammar.proofs.Walks.{Takes, Walk, counted, counted-append, counted-is, goes, goes-is}
+use Rattle.ext_grammar.proofs.Leading.{Leads}
 use Rattle.ext_grammar.proofs.LedExpressions.{disjunction-leads, followed-by}
-use Rattle.ext_grammar.proofs.LedItems.{Closes, closing, along, item-goes, let_value-leads, let_call-leads, assign-leads, resp-leads, put-leads, del-leads, write-leads}
+use Rattle.ext_grammar.proofs.LedItems.{closing, along, item-goes, let_value-leads, let_call-leads, assign-leads, resp-leads, put-leads, del-leads, write-leads}
 
 module _ (program : Program) where
   -- behind a test its block
@@ -43,11 +43,13 @@ module _ (program : Program) where
   returned-leads : (whole : Disjunction) (known : List Statement) (around : AroundBlock) (rest : List Slot) → Walk rest (closed (block_of (known ++ does.Return (disjunction_tree whole) ∷ [])) around) 0 program → Walk ((return_slots whole ++ slot close_block outside ∷ []) ++ rest) (statements known around) 0 program
   returned-leads whole known around rest walk =
       along program (statements known around) 0 ((return_slots whole ++ slot close_block outside ∷ []) ++ rest) (return_slots whole ++ (slot close_block outside ∷ rest))
-      (append_assoc (return_slots whole) (slot close_block outside ∷ []) rest)
-      (refl, item-goes program (disjunction_tokens whole ++ semicolon ∷ []) (expression (returned known around)) (coming.last_brace (known ++ does.Return (disjunction_tree whole) ∷ []) around) (slot close_block outside ∷ rest)
-      (closing program (semicolon ∷ []) whole (returned known around) (coming.last_brace (known ++ does.Return (disjunction_tree whole) ∷ []) around)
-      (disjunction-leads program whole (returned known around) tt)
-      (λ before rest walk. (refl, walk))) (refl, walk))
+      (append_assoc (return_slots whole) (slot close_block outside ∷ []) rest) (
+        refl,
+        item-goes program (disjunction_tokens whole ++ semicolon ∷ []) (expression (returned known around)) (coming.last_brace (known ++ does.Return (disjunction_tree whole) ∷ []) around) (slot close_block outside ∷ rest)
+            (closing program (semicolon ∷ []) whole (returned known around) (coming.last_brace (known ++ does.Return (disjunction_tree whole) ∷ []) around)
+            (disjunction-leads program whole (returned known around) tt)
+            (λ before rest walk. (refl, walk))) (refl, walk),
+      )
 
   -- the operators of a test are those that were counted
   test-count : (test : Disjunction) → operators (disjunction_tokens test) ≡ counted 0 (disjunction_tokens test)
@@ -90,32 +92,49 @@ module _ (program : Program) where
       ∙ add_assoc (operators one) (operators two) (operators three))
 
   get-leads : (table key : Disjunction) (around : AroundStatement) → Leads program (open_ ∷ (disjunction_tokens table ++ comma ∷ (disjunction_tokens key ++ close ∷ []))) (fixed mark.Open (expression (get_table around))) (fixed mark.OpenBlock (some_word (coming.get (disjunction_tree table) (disjunction_tree key)) around))
-  get-leads table key around before rest walk =
-      (refl, followed-by program (comma ∷ (disjunction_tokens key ++ close ∷ [])) table (get_table around) _
-      (disjunction-leads program table (get_table around) tt)
-      (λ before rest walk. (refl, followed-by program (close ∷ []) key (get_key (disjunction_tree table) around) _
-      (disjunction-leads program key (get_key (disjunction_tree table) around) tt)
-      (λ before rest walk. (refl, walk)) before rest walk)) before rest walk)
+  get-leads table key around before rest walk = (
+    refl,
+    followed-by program (comma ∷ (disjunction_tokens key ++ close ∷ [])) table (get_table around) _
+        (disjunction-leads program table (get_table around) tt)
+        (λ before rest walk. (
+          refl,
+          followed-by program (close ∷ []) key (get_key (disjunction_tree table) around) _
+              (disjunction-leads program key (get_key (disjunction_tree table) around) tt)
+              (λ before rest walk. (refl, walk)) before rest walk,
+        )) before rest walk,
+  )
 
   multiget-leads : (table keys width : Disjunction) (around : AroundStatement) → Leads program (open_ ∷ (disjunction_tokens table ++ comma ∷ (disjunction_tokens keys ++ comma ∷ (disjunction_tokens width ++ close ∷ [])))) (fixed mark.Open (expression (multiget_table around))) (fixed mark.OpenBlock (some_word (coming.multiget (disjunction_tree table) (disjunction_tree keys) (disjunction_tree width)) around))
-  multiget-leads table keys width around before rest walk =
-      (refl, followed-by program (comma ∷ (disjunction_tokens keys ++ comma ∷ (disjunction_tokens width ++ close ∷ []))) table (multiget_table around) _
-      (disjunction-leads program table (multiget_table around) tt)
-      (λ before rest walk. (refl, followed-by program (comma ∷ (disjunction_tokens width ++ close ∷ [])) keys (multiget_keys (disjunction_tree table) around) _
-      (disjunction-leads program keys (multiget_keys (disjunction_tree table) around) tt)
-      (λ before rest walk. (refl, followed-by program (close ∷ []) width (multiget_width (disjunction_tree table) (disjunction_tree keys) around) _
-      (disjunction-leads program width (multiget_width (disjunction_tree table) (disjunction_tree keys) around) tt)
-      (λ before rest walk. (refl, walk)) before rest walk)) before rest walk)) before rest walk)
+  multiget-leads table keys width around before rest walk = (
+    refl,
+    followed-by program (comma ∷ (disjunction_tokens keys ++ comma ∷ (disjunction_tokens width ++ close ∷ []))) table (multiget_table around) _
+        (disjunction-leads program table (multiget_table around) tt)
+        (λ before rest walk. (
+          refl,
+          followed-by program (comma ∷ (disjunction_tokens width ++ close ∷ [])) keys (multiget_keys (disjunction_tree table) around) _
+              (disjunction-leads program keys (multiget_keys (disjunction_tree table) around) tt)
+              (λ before rest walk. (
+                refl,
+                followed-by program (close ∷ []) width (multiget_width (disjunction_tree table) (disjunction_tree keys) around) _
+                    (disjunction-leads program width (multiget_width (disjunction_tree table) (disjunction_tree keys) around) tt)
+                    (λ before rest walk. (refl, walk)) before rest walk,
+              )) before rest walk,
+        )) before rest walk,
+  )
 
   mutual
     pub braces-lead : (block : Braces) (around : AroundBlock) (before : ℕ) (rest : List Slot) → Walk rest (closed (braces_tree block) around) 0 program → Walk (braces_slots block before ++ rest) (braces around) before program
-    braces-lead (open_end all) around before rest walk =
-        (refl, rw (append_assoc (statements_slots all) (slot close_block outside ∷ []) rest)
-        (statements-lead all [] around (slot close_block outside ∷ rest) (refl, walk)))
-    braces-lead (returning all whole) around before rest walk =
-        (refl, rw (append_assoc (statements_slots all) (return_slots whole ++ slot close_block outside ∷ []) rest)
-        (statements-lead all [] around ((return_slots whole ++ slot close_block outside ∷ []) ++ rest)
-        (returned-leads whole (statements_tree all) around rest walk)))
+    braces-lead (open_end all) around before rest walk = (
+      refl,
+      rw (append_assoc (statements_slots all) (slot close_block outside ∷ []) rest)
+          (statements-lead all [] around (slot close_block outside ∷ rest) (refl, walk)),
+    )
+    braces-lead (returning all whole) around before rest walk = (
+      refl,
+      rw (append_assoc (statements_slots all) (return_slots whole ++ slot close_block outside ∷ []) rest)
+          (statements-lead all [] around ((return_slots whole ++ slot close_block outside ∷ []) ++ rest)
+          (returned-leads whole (statements_tree all) around rest walk)),
+    )
 
     pub statements-lead : (all : MoreStatements) (known : List Statement) (around : AroundBlock) (rest : List Slot) → Walk rest (statements (known ++ statements_tree all) around) 0 program → Walk (statements_slots all ++ rest) (statements known around) 0 program
     statements-lead end_statements known around rest walk = rw (append-nil known) at walk
@@ -133,52 +152,79 @@ module _ (program : Program) where
     sentence-leads (grammar.put name) known around rest walk = put-leads program name rest known around walk
     sentence-leads (grammar.del table key) known around rest walk = del-leads program table key rest known around walk
     sentence-leads (grammar.resp whole) known around rest walk = resp-leads program whole rest known around walk
-    sentence-leads (grammar.if test block) known around rest walk =
-        (refl, tested test (if_test (in_block known around)) (braces_slots block (operators (disjunction_tokens test))) rest
-        (disjunction-leads program test (if_test (in_block known around)) tt)
-        (if-goes (disjunction_tree test) (in_block known around) (counted 0 (disjunction_tokens test)) (braces_slots block (operators (disjunction_tokens test)) ++ rest)
-        (recounted block (if_block (disjunction_tree test) (counted 0 (disjunction_tokens test)) (in_block known around)) (operators (disjunction_tokens test)) (counted 0 (disjunction_tokens test)) rest (test-count test)
-        (braces-lead block (if_block (disjunction_tree test) (counted 0 (disjunction_tokens test)) (in_block known around)) (counted 0 (disjunction_tokens test)) rest
-        (no-else (disjunction_tree test) (braces_tree block) (counted 0 (disjunction_tokens test)) around known rest walk)))))
-    sentence-leads (grammar.if_else test block other) known around rest walk =
-        (refl, tested test (if_test (in_block known around)) (braces_slots block (operators (disjunction_tokens test)) ++ (slot (token.Word word.Else) outside ∷ braces_slots other (operators (disjunction_tokens test)))) rest
-        (disjunction-leads program test (if_test (in_block known around)) tt)
-        (if-goes (disjunction_tree test) (in_block known around) (counted 0 (disjunction_tokens test)) ((braces_slots block (operators (disjunction_tokens test)) ++ (slot (token.Word word.Else) outside ∷ braces_slots other (operators (disjunction_tokens test)))) ++ rest)
-        (along program (braces (if_block (disjunction_tree test) (counted 0 (disjunction_tokens test)) (in_block known around))) (counted 0 (disjunction_tokens test))
-        ((braces_slots block (operators (disjunction_tokens test)) ++ (slot (token.Word word.Else) outside ∷ braces_slots other (operators (disjunction_tokens test)))) ++ rest)
-        (braces_slots block (operators (disjunction_tokens test)) ++ (slot (token.Word word.Else) outside ∷ (braces_slots other (operators (disjunction_tokens test)) ++ rest)))
-        (append_assoc (braces_slots block (operators (disjunction_tokens test))) (slot (token.Word word.Else) outside ∷ braces_slots other (operators (disjunction_tokens test))) rest)
-        (recounted block (if_block (disjunction_tree test) (counted 0 (disjunction_tokens test)) (in_block known around)) (operators (disjunction_tokens test)) (counted 0 (disjunction_tokens test)) (slot (token.Word word.Else) outside ∷ (braces_slots other (operators (disjunction_tokens test)) ++ rest)) (test-count test)
-        (braces-lead block (if_block (disjunction_tree test) (counted 0 (disjunction_tokens test)) (in_block known around)) (counted 0 (disjunction_tokens test)) (slot (token.Word word.Else) outside ∷ (braces_slots other (operators (disjunction_tokens test)) ++ rest))
-        (refl, recounted other (else_block (disjunction_tree test) (braces_tree block) (in_block known around)) (operators (disjunction_tokens test)) (counted 0 (disjunction_tokens test)) rest (test-count test)
-        (braces-lead other (else_block (disjunction_tree test) (braces_tree block) (in_block known around)) (counted 0 (disjunction_tokens test)) rest walk))))))
-        )
-    sentence-leads (grammar.while test block) known around rest walk =
-        (refl, tested test (while_test (in_block known around)) (braces_slots block (operators (disjunction_tokens test))) rest
-        (disjunction-leads program test (while_test (in_block known around)) tt)
-        (while-goes (disjunction_tree test) (in_block known around) (counted 0 (disjunction_tokens test)) (braces_slots block (operators (disjunction_tokens test)) ++ rest)
-        (recounted block (while_block (disjunction_tree test) (in_block known around)) (operators (disjunction_tokens test)) (counted 0 (disjunction_tokens test)) rest (test-count test)
-        (braces-lead block (while_block (disjunction_tree test) (in_block known around)) (counted 0 (disjunction_tokens test)) rest walk))))
-    sentence-leads (grammar.get table key both) known around rest walk =
-        (refl, looked-up (open_ ∷ (disjunction_tokens table ++ comma ∷ (disjunction_tokens key ++ close ∷ []))) (fixed mark.Open (expression (get_table (in_block known around)))) (coming.get (disjunction_tree table) (disjunction_tree key)) (in_block known around) both
-        (operators (disjunction_tokens table) + operators (disjunction_tokens key)) rest (two-count table key)
-        (get-leads table key (in_block known around))
-        (arms-lead both (coming.get (disjunction_tree table) (disjunction_tree key)) (in_block known around) _ rest walk))
-    sentence-leads (grammar.multiget table keys width both) known around rest walk =
-        (refl, looked-up (open_ ∷ (disjunction_tokens table ++ comma ∷ (disjunction_tokens keys ++ comma ∷ (disjunction_tokens width ++ close ∷ [])))) (fixed mark.Open (expression (multiget_table (in_block known around)))) (coming.multiget (disjunction_tree table) (disjunction_tree keys) (disjunction_tree width)) (in_block known around) both
-        (operators (disjunction_tokens table) + (operators (disjunction_tokens keys) + operators (disjunction_tokens width))) rest (three-count table keys width)
-        (multiget-leads table keys width (in_block known around))
-        (arms-lead both (coming.multiget (disjunction_tree table) (disjunction_tree keys) (disjunction_tree width)) (in_block known around) _ rest walk))
+    sentence-leads (grammar.if test block) known around rest walk = (
+      refl,
+      tested test (if_test (in_block known around)) (braces_slots block (operators (disjunction_tokens test))) rest
+          (disjunction-leads program test (if_test (in_block known around)) tt)
+          (if-goes (disjunction_tree test) (in_block known around) (counted 0 (disjunction_tokens test)) (braces_slots block (operators (disjunction_tokens test)) ++ rest)
+          (recounted block (if_block (disjunction_tree test) (counted 0 (disjunction_tokens test)) (in_block known around)) (operators (disjunction_tokens test)) (counted 0 (disjunction_tokens test)) rest (test-count test)
+          (braces-lead block (if_block (disjunction_tree test) (counted 0 (disjunction_tokens test)) (in_block known around)) (counted 0 (disjunction_tokens test)) rest
+          (no-else (disjunction_tree test) (braces_tree block) (counted 0 (disjunction_tokens test)) around known rest walk)))),
+    )
+    sentence-leads (grammar.if_else test block other) known around rest walk = (
+      refl,
+      tested test (if_test (in_block known around)) (braces_slots block (operators (disjunction_tokens test)) ++ (slot (token.Word word.Else) outside ∷ braces_slots other (operators (disjunction_tokens test)))) rest
+          (disjunction-leads program test (if_test (in_block known around)) tt)
+          (if-goes (disjunction_tree test) (in_block known around) (counted 0 (disjunction_tokens test)) ((braces_slots block (operators (disjunction_tokens test)) ++ (slot (token.Word word.Else) outside ∷ braces_slots other (operators (disjunction_tokens test)))) ++ rest)
+          (along program (braces (if_block (disjunction_tree test) (counted 0 (disjunction_tokens test)) (in_block known around))) (counted 0 (disjunction_tokens test))
+          ((braces_slots block (operators (disjunction_tokens test)) ++ (slot (token.Word word.Else) outside ∷ braces_slots other (operators (disjunction_tokens test)))) ++ rest)
+          (braces_slots block (operators (disjunction_tokens test)) ++ (slot (token.Word word.Else) outside ∷ (braces_slots other (operators (disjunction_tokens test)) ++ rest)))
+          (append_assoc (braces_slots block (operators (disjunction_tokens test))) (slot (token.Word word.Else) outside ∷ braces_slots other (operators (disjunction_tokens test))) rest)
+          (recounted block (if_block (disjunction_tree test) (counted 0 (disjunction_tokens test)) (in_block known around)) (operators (disjunction_tokens test)) (counted 0 (disjunction_tokens test)) (slot (token.Word word.Else) outside ∷ (braces_slots other (operators (disjunction_tokens test)) ++ rest)) (test-count test)
+          (braces-lead block (if_block (disjunction_tree test) (counted 0 (disjunction_tokens test)) (in_block known around)) (counted 0 (disjunction_tokens test)) (slot (token.Word word.Else) outside ∷ (braces_slots other (operators (disjunction_tokens test)) ++ rest)) (
+            refl,
+            recounted other (else_block (disjunction_tree test) (braces_tree block) (in_block known around)) (operators (disjunction_tokens test)) (counted 0 (disjunction_tokens test)) rest (test-count test)
+                (braces-lead other (else_block (disjunction_tree test) (braces_tree block) (in_block known around)) (counted 0 (disjunction_tokens test)) rest walk),
+          ))))),
+    )
+    sentence-leads (grammar.while test block) known around rest walk = (
+      refl,
+      tested test (while_test (in_block known around)) (braces_slots block (operators (disjunction_tokens test))) rest
+          (disjunction-leads program test (while_test (in_block known around)) tt)
+          (while-goes (disjunction_tree test) (in_block known around) (counted 0 (disjunction_tokens test)) (braces_slots block (operators (disjunction_tokens test)) ++ rest)
+          (recounted block (while_block (disjunction_tree test) (in_block known around)) (operators (disjunction_tokens test)) (counted 0 (disjunction_tokens test)) rest (test-count test)
+          (braces-lead block (while_block (disjunction_tree test) (in_block known around)) (counted 0 (disjunction_tokens test)) rest walk))),
+    )
+    sentence-leads (grammar.get table key both) known around rest walk = (
+      refl,
+      looked-up (open_ ∷ (disjunction_tokens table ++ comma ∷ (disjunction_tokens key ++ close ∷ []))) (fixed mark.Open (expression (get_table (in_block known around)))) (coming.get (disjunction_tree table) (disjunction_tree key)) (in_block known around) both
+          (operators (disjunction_tokens table) + operators (disjunction_tokens key)) rest (two-count table key)
+          (get-leads table key (in_block known around))
+          (arms-lead both (coming.get (disjunction_tree table) (disjunction_tree key)) (in_block known around) _ rest walk),
+    )
+    sentence-leads (grammar.multiget table keys width both) known around rest walk = (
+      refl,
+      looked-up (open_ ∷ (disjunction_tokens table ++ comma ∷ (disjunction_tokens keys ++ comma ∷ (disjunction_tokens width ++ close ∷ [])))) (fixed mark.Open (expression (multiget_table (in_block known around)))) (coming.multiget (disjunction_tree table) (disjunction_tree keys) (disjunction_tree width)) (in_block known around) both
+          (operators (disjunction_tokens table) + (operators (disjunction_tokens keys) + operators (disjunction_tokens width))) rest (three-count table keys width)
+          (multiget-leads table keys width (in_block known around))
+          (arms-lead both (coming.multiget (disjunction_tree table) (disjunction_tree keys) (disjunction_tree width)) (in_block known around) _ rest walk),
+    )
 
     pub arms-lead : (both : Arms) (looking : Looking) (around : AroundStatement) (before : ℕ) (rest : List Slot) → Walk rest (done (arms_tree both (looking_statement looking)) around) 0 program → Walk (arms_slots both before ++ rest) (fixed mark.OpenBlock (some_word looking around)) before program
-    arms-lead (arms name block other) looking around before rest walk =
-        (refl, (refl, (refl, (refl, along program (braces (some_block looking name before around)) before
-        ((braces_slots block before ++ (slot (token.Word word.None) (inside before) ∷ slot (token.Mark mark.Arm) (inside before) ∷ (braces_slots other before ++ slot close_block (inside before) ∷ []))) ++ rest)
-        (braces_slots block before ++ (slot (token.Word word.None) (inside before) ∷ slot (token.Mark mark.Arm) (inside before) ∷ ((braces_slots other before ++ slot close_block (inside before) ∷ []) ++ rest)))
-        (append_assoc (braces_slots block before) (slot (token.Word word.None) (inside before) ∷ slot (token.Mark mark.Arm) (inside before) ∷ (braces_slots other before ++ slot close_block (inside before) ∷ [])) rest)
-        (braces-lead block (some_block looking name before around) before (slot (token.Word word.None) (inside before) ∷ slot (token.Mark mark.Arm) (inside before) ∷ ((braces_slots other before ++ slot close_block (inside before) ∷ []) ++ rest))
-        (refl, (refl, along program (braces (none_block looking name (braces_tree block) before around)) before
-        ((braces_slots other before ++ slot close_block (inside before) ∷ []) ++ rest)
-        (braces_slots other before ++ (slot close_block (inside before) ∷ rest))
-        (append_assoc (braces_slots other before) (slot close_block (inside before) ∷ []) rest)
-        (braces-lead other (none_block looking name (braces_tree block) before around) before (slot close_block (inside before) ∷ rest) (refl, walk)))))))))
+    arms-lead (arms name block other) looking around before rest walk = (
+      refl,
+      (
+        refl,
+        (
+          refl,
+          (
+            refl,
+            along program (braces (some_block looking name before around)) before
+                ((braces_slots block before ++ (slot (token.Word word.None) (inside before) ∷ slot (token.Mark mark.Arm) (inside before) ∷ (braces_slots other before ++ slot close_block (inside before) ∷ []))) ++ rest)
+                (braces_slots block before ++ (slot (token.Word word.None) (inside before) ∷ slot (token.Mark mark.Arm) (inside before) ∷ ((braces_slots other before ++ slot close_block (inside before) ∷ []) ++ rest)))
+                (append_assoc (braces_slots block before) (slot (token.Word word.None) (inside before) ∷ slot (token.Mark mark.Arm) (inside before) ∷ (braces_slots other before ++ slot close_block (inside before) ∷ [])) rest)
+                (braces-lead block (some_block looking name before around) before (slot (token.Word word.None) (inside before) ∷ slot (token.Mark mark.Arm) (inside before) ∷ ((braces_slots other before ++ slot close_block (inside before) ∷ []) ++ rest)) (
+                  refl,
+                  (
+                    refl,
+                    along program (braces (none_block looking name (braces_tree block) before around)) before
+                        ((braces_slots other before ++ slot close_block (inside before) ∷ []) ++ rest)
+                        (braces_slots other before ++ (slot close_block (inside before) ∷ rest))
+                        (append_assoc (braces_slots other before) (slot close_block (inside before) ∷ []) rest)
+                        (braces-lead other (none_block looking name (braces_tree block) before around) before (slot close_block (inside before) ∷ rest) (refl, walk)),
+                  ),
+                )),
+          ),
+        ),
+      ),
+    )

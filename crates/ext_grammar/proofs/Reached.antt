@@ -1,12 +1,12 @@
 -- What holds where a reader stands behind some tokens of a text.
-use Rattle.std.proofs.Common.{◌≡◌, ℕ, ◌⊎◌, List, [], ◌∷◌, ◌++◌, Option, Some, None, refl, sym, ◌∙◌, ap, subst, append_assoc, append-nil, inl, inr}
+use Rattle.std.proofs.Common.{◌≡◌, ℕ, ◌⊎◌, List, [], ◌∷◌, ◌++◌, Option, Some, refl, sym, ◌∙◌, ap, subst, append_assoc, inl, inr}
 use Rattle.ext_mean.specs.declared.token.Placed.{Placed}
 use Rattle.ext_mean.specs.declared.token.Token.{Token}
 use Rattle.ext_mean.specs.declared.tree.Program.{Program}
 use Rattle.ext_mean.specs.Bounds.{functions_with, functions_behind, locals_with, locals_behind, IsBounded, AreBounded}
 use Rattle.ext_mean.specs.Text.{line_if_begins, item_lines}
 use Rattle.ext_mean.specs.Tokens.{tokens_of}
-use Rattle.ext_mean.specs.Wording.{Standing, outside, begins, inside, naming, Slot, slot, slot_tokens}
+use Rattle.ext_mean.specs.Wording.{Standing, begins, Slot, slot, slot_tokens}
 use Rattle.ext_grammar.specs.Coming.{Coming, functions, Move, on_token}
 use Rattle.ext_grammar.specs.Reading.{Counted, open_operators}
 use Rattle.ext_grammar.proofs.Walks.{Takes, Walk}
@@ -106,7 +106,7 @@ reached-decides (onward {placed = placed} {coming = coming} {counted = counted} 
     let (there, four, five) = one-slot last next.token three in
     let P : List Slot → Type 0 = λ it. Walk it (functions []) 0 program in
     let all : others ++ more ≡ front ++ (there ∷ more) =
-        ap (λ it. it ++ more) (one ∙ ap (λ it. front ++ it) four) ∙ append_assoc front (there ∷ []) more in
+    ap (λ it. it ++ more) (one ∙ ap (λ it. front ++ it) four) ∙ append_assoc front (there ∷ []) more in
     let (six, onwards) = reached-decides reached front (there ∷ more) program two (subst P all walk) in
     let before : ℕ = open_operators coming counted.operators in
     let (seven, rest) = takes-move (on_token coming before there.token) move there.standing (λ then_coming then_before. Walk more then_coming then_before program) (ap (λ it. on_token coming before it) five ∙ moved) onwards in
@@ -160,18 +160,18 @@ last-split [] last there (one ∷ other ∷ before) rest same = absurd (cc)
 last-split (first ∷ slots) last there [] rest same = inr (slots, cc)
 last-split (first ∷ slots) last there (one ∷ before) rest same =
     elim (last-split slots last there before rest (cc)) [
-      inl (two, three) ↦ inl (cc, three)
-    | inr (more, two) ↦ inr (more, cc)
+      | inl (two, three) ↦ inl (cc, three)
+      | inr (more, two) ↦ inr (more, cc)
     ]
 
 bounded-last : (slots : List Slot) (last : Slot) → AreBounded slots → IsBounded slots last → AreBounded (slots ++ last ∷ [])
 bounded-last slots last all one before there rest same =
     elim (last-split slots last there before rest same) [
-      inl (two, three) ↦
-        (let P : List Slot → Type 0 = λ it. IsBounded it there in
-        let Q : Slot → Type 0 = λ it. IsBounded slots it in
-        subst P (sym two) (subst Q (sym three) one))
-    | inr (more, two) ↦ all before there more two
+      | inl (two, three) ↦
+          (let P : List Slot → Type 0 = λ it. IsBounded it there in
+          let Q : Slot → Type 0 = λ it. IsBounded slots it in
+          subst P (sym two) (subst Q (sym three) one))
+      | inr (more, two) ↦ all before there more two
     ]
 
 no-slots : (before rest : List Slot) (there : Slot) → [] ≡ before ++ there ∷ rest → ⊥

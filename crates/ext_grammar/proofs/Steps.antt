@@ -1,5 +1,5 @@
 -- A token that the reader takes is one that the grammar may have there.
-use Rattle.std.proofs.Common.{◌≡◌, ℕ, List, [], ◌∷◌, ◌++◌, refl, ◌∙◌, ap}
+use Rattle.std.proofs.Common.{ℕ, List, [], ◌∷◌, ◌++◌, ◌∙◌, ap}
 use Rattle.ext_mean.specs.declared.statement.Block.{Block}
 use Rattle.ext_mean.specs.declared.token.Mark.TheVariants as mark
 use Rattle.ext_mean.specs.declared.token.Token.{Token}
@@ -13,8 +13,8 @@ use Rattle.ext_mean.specs.Grammar as grammar
 use Rattle.ext_mean.specs.Wording.{open_, close, close_block, comma, semicolon, colon, assigns, fn_token, kind_token, disjunction_tokens}
 use Rattle.ext_grammar.specs.Coming.{AroundStatement, Looking, write_place, Coming, fixed, unary, primary, behind, view_name, let_name, let_kind, value, behind_name, first_argument, written_name, put_name, some_word, some_name, none_word, arms_end, braces, statements, last_brace, maybe_else, functions, function_name, first_parameter, parameter, parameter_kind, behind_parameter, result_kind, Move, stays, names, ends, stands_out, done, closed, expression, on_some, on_mark, on_some_word, on_none_word, on_functions, on_first_parameter, on_behind_parameter, on_token}
 use Rattle.ext_grammar.specs.Coming as coming
-use Rattle.ext_grammar.proofs.BareTokens.{braces_tokens, parameters_tokens, more_parameters_tokens, signature_end, more_functions_tokens}
-use Rattle.ext_grammar.proofs.Continuing.{Reads, named_tokens, none_tokens, valued_tokens, AreFunctions, AfterBlock, AfterStatement, Continues}
+use Rattle.ext_grammar.proofs.BareTokens.{braces_tokens, parameters_tokens, signature_end}
+use Rattle.ext_grammar.proofs.Continuing.{none_tokens, AfterBlock, AfterStatement, Continues}
 use Rattle.ext_grammar.proofs.Joined.{Then, joined, from-name, from-kind, whole-read}
 use Rattle.ext_grammar.proofs.StepsOfExpressions.{headed, one-mark, primary-step, unary-step, expr-step, opened-block, done-after}
 use Rattle.ext_grammar.proofs.StepsOfStatements.{closed-after, value-step, called-step, arguments-step, statements-step, else-step}
@@ -27,12 +27,14 @@ some-step looking around before _ tokens read = absurd read
 
 -- functions and their parameters
 functions-step : (known : List Function) (next : Token) (tokens : List Token) → Then (on_functions known next) tokens → Continues (functions known) (next ∷ tokens)
-functions-step [] (token.Word word.Fn) tokens (name, params, result, body, (rest, one, (more, two))) =
-    (program (function name params result body) more,
-    ap (λ it. fn_token ∷ it) (one ∙ ap (λ it. (token.Name name ∷ open_ ∷ (parameters_tokens params ++ signature_end result body)) ++ it) two))
-functions-step (first ∷ known) (token.Word word.Fn) tokens (name, params, result, body, (rest, one, (more, two))) =
-    (define (function name params result body) more,
-    ap (λ it. fn_token ∷ it) (one ∙ ap (λ it. (token.Name name ∷ open_ ∷ (parameters_tokens params ++ signature_end result body)) ++ it) two))
+functions-step [] (token.Word word.Fn) tokens (name, params, result, body, (rest, one, (more, two))) = (
+  program (function name params result body) more,
+  ap (λ it. fn_token ∷ it) (one ∙ ap (λ it. (token.Name name ∷ open_ ∷ (parameters_tokens params ++ signature_end result body)) ++ it) two),
+)
+functions-step (first ∷ known) (token.Word word.Fn) tokens (name, params, result, body, (rest, one, (more, two))) = (
+  define (function name params result body) more,
+  ap (λ it. fn_token ∷ it) (one ∙ ap (λ it. (token.Name name ∷ open_ ∷ (parameters_tokens params ++ signature_end result body)) ++ it) two),
+)
 functions-step known _ tokens read = absurd read
 
 first-parameter-step : (known : List Function) (name : List ℕ) (before : ℕ) (next : Token) (tokens : List Token) → Then (on_first_parameter known name before next) tokens → Continues (first_parameter known name) (next ∷ tokens)
@@ -73,17 +75,33 @@ step (behind_name name of called around) before next tokens read = called-step n
 step (first_argument name of called around) before next tokens read = arguments-step name of called around before next tokens read
 step (written_name writing around) before next tokens read =
     let (name, same, (rest, one, more)) = from-name next _ tokens read in
-    let (place, (middle, two, (whole, (last, three, after)))) = whole-read (write_place writing name around) rest more in
-    (name, place, whole, (last, headed next (token.Name name) tokens _ same
-    (one ∙ ap (λ it. comma ∷ it) (joined (disjunction_tokens place) (comma ∷ (disjunction_tokens whole ++ close ∷ semicolon ∷ [])) rest middle last two three)), after))
+    let (place, (middle, two, (whole, (last, three, after)))) = whole-read (write_place writing name around) rest more in (
+      name,
+      place,
+      whole,
+      (
+        last,
+        headed next (token.Name name) tokens _ same
+            (one ∙ ap (λ it. comma ∷ it) (joined (disjunction_tokens place) (comma ∷ (disjunction_tokens whole ++ close ∷ semicolon ∷ [])) rest middle last two three)),
+        after,
+      ),
+    )
 step (put_name around) before next tokens read =
     let (name, same, (rest, one, (last, two, after))) = from-name next _ tokens read in
     (name, (last, headed next (token.Name name) tokens (close ∷ semicolon ∷ last) same (one ∙ ap (λ it. close ∷ it) two), after))
 step (some_word looking around) before next tokens read = some-step looking around before next tokens read
 step (some_name looking around) before next tokens read =
-    let (name, same, (rest, one, (block, (middle, two, (other, (last, three, after)))))) = from-name next _ tokens read in
-    (name, block, other, (last, headed next (token.Name name) tokens _ same
-    (one ∙ ap (λ it. token.Mark mark.Arm ∷ it) (joined (braces_tokens block) (none_tokens other) rest middle last two three)), after))
+    let (name, same, (rest, one, (block, (middle, two, (other, (last, three, after)))))) = from-name next _ tokens read in (
+      name,
+      block,
+      other,
+      (
+        last,
+        headed next (token.Name name) tokens _ same
+            (one ∙ ap (λ it. token.Mark mark.Arm ∷ it) (joined (braces_tokens block) (none_tokens other) rest middle last two three)),
+        after,
+      ),
+    )
 step (none_word operators looking name block around) before next tokens read =
     none-step operators looking name block around before next tokens read
 step (arms_end operators statement around) before next tokens read =

@@ -1,6 +1,5 @@
 -- A token that the reader takes in an expression is one that the grammar may have there.
-use Rattle.std.proofs.Common.{◌≡◌, ℕ, Bool, true, false, List, [], ◌∷◌, ◌++◌, Option, Some, None, ◌⊎◌, refl, sym, ◌∙◌, ap, append_assoc, inl, inr, if◌then◌else◌}
-use Rattle.ext_mean.specs.declared.expr.BinOp.{BinOp}
+use Rattle.std.proofs.Common.{◌≡◌, ℕ, Bool, true, false, List, [], ◌∷◌, ◌++◌, Option, ◌⊎◌, refl, sym, ◌∙◌, ap, append_assoc, inl, inr, if◌then◌else◌}
 use Rattle.ext_mean.specs.declared.expr.BinOp.TheVariants as op
 use Rattle.ext_mean.specs.declared.expr.Expr.{Expr}
 use Rattle.ext_mean.specs.declared.expr.Expr.TheVariants as expr
@@ -15,11 +14,11 @@ use Rattle.ext_mean.specs.declared.statement.Statement.TheVariants as does
 use Rattle.ext_mean.specs.Derived.{write_tree}
 use Rattle.ext_mean.specs.Grammar.{Braces, open_end, returning, Arms, arms, equal, not_equal, less, less_equal, greater, greater_equal, plus, minus, times, over, remainder, Disjunction, MoreOr, end_or, or, MoreAnd, end_and, and, MoreSum, end_sum, add, MoreProduct, end_product, multiply, Unary, plain, Primary, number, string, truth, variable, parentheses, args, len, view, temp, byte, u64, sub, alloc, MoreArguments, end_arguments, argument}
 use Rattle.ext_mean.specs.Grammar as grammar
-use Rattle.ext_mean.specs.Wording.{close, open_block, close_block, comma, semicolon, disjunction_tokens, or_tokens, and_tokens, add_tokens, multiply_tokens, unary_tokens, primary_tokens, more_arguments_tokens}
+use Rattle.ext_mean.specs.Wording.{close, open_block, close_block, comma, semicolon, disjunction_tokens, or_tokens, and_tokens, add_tokens, multiply_tokens, more_arguments_tokens}
 use Rattle.ext_grammar.specs.Coming.{Level, disjoining, conjoining, comparing, adding, multiplying, AroundBlock, if_block, while_block, AroundStatement, in_block, AroundExpr, Looking, chain, right, negated, in_parentheses, only_operand, first_of_two, second_of_two, first_of_three, second_of_three, third_of_three, call_argument, let_value, assigned, if_test, while_test, get_table, get_key, multiget_table, multiget_keys, multiget_width, write_place, write_value, del_table, del_key, answered, returned, Coming, fixed, unary, primary, behind, last_brace, some_word, expression, Move, stays, ends, done, operator_of, is_mark, on_mark, on_primary, on_unary, on_chain, on_behind, opens, statements}
 use Rattle.ext_grammar.specs.Coming as coming
 use Rattle.ext_grammar.proofs.BareTokens.{braces_tokens, arms_tokens}
-use Rattle.ext_grammar.proofs.Continuing.{Reads, Further, no_further, further, further_tokens, Otherwise, otherwise_tokens, inner_tokens, AfterBlock, AfterStatement, AfterExpr, Continues}
+use Rattle.ext_grammar.proofs.Continuing.{Reads, Further, no_further, further, further_tokens, otherwise_tokens, inner_tokens, AfterBlock, AfterStatement, AfterExpr, Continues}
 use Rattle.ext_grammar.proofs.Joined.{Then, joined, mark-is, from-mark, product-read, sum-read, comparison-read, conjunction-read, whole-read}
 
 -- operands
@@ -168,15 +167,19 @@ either false move other tokens read = inr read
 argument-step : (name : List ℕ) (of : Kind) (called : List ℕ) (values : List Expr) (around : AroundStatement) (found : Expr) (before : ℕ) (next : Token) (tokens : List Token) → Then (on_behind found (call_argument name of called values around) before next) tokens → AfterExpr (call_argument name of called values around) (next ∷ tokens)
 argument-step name of called values around found before next tokens read =
     elim (either (is_mark mark.Comma next) _ _ tokens read) [
-      inl (same, again) ↦
-        let (whole, (rest, one, (more, (last, two, after)))) = whole-read (call_argument name of called (values ++ found ∷ []) around) tokens again in
-        (argument whole more, (last,
-        headed next comma tokens _ (mark-is mark.Comma next same)
-        (joined (disjunction_tokens whole) (more_arguments_tokens more ++ close ∷ semicolon ∷ []) tokens rest last one two
-        ∙ ap (λ it. it ++ last) (sym (append_assoc (disjunction_tokens whole) (more_arguments_tokens more) (close ∷ semicolon ∷ [])))),
-        after))
-    | inr closing ↦
-        (end_arguments, two-marks mark.Close next (stays before (coming.semicolon (does.LetCall name of called (values ++ found ∷ [])) around)) tokens (semicolon ∷ []) (AfterStatement around) (λ it. it) closing)
+      | inl (same, again) ↦
+          let (whole, (rest, one, (more, (last, two, after)))) = whole-read (call_argument name of called (values ++ found ∷ []) around) tokens again in (
+            argument whole more,
+            (
+              last,
+              headed next comma tokens _ (mark-is mark.Comma next same)
+                  (joined (disjunction_tokens whole) (more_arguments_tokens more ++ close ∷ semicolon ∷ []) tokens rest last one two
+                  ∙ ap (λ it. it ++ last) (sym (append_assoc (disjunction_tokens whole) (more_arguments_tokens more) (close ∷ semicolon ∷ [])))),
+              after,
+            ),
+          )
+      | inr closing ↦
+          (end_arguments, two-marks mark.Close next (stays before (coming.semicolon (does.LetCall name of called (values ++ found ∷ [])) around)) tokens (semicolon ∷ []) (AfterStatement around) (λ it. it) closing)
     ]
 
 pub expr-step : (around : AroundExpr) (found : Expr) (before : ℕ) (next : Token) (tokens : List Token) → Then (on_behind found around before next) tokens → AfterExpr around (next ∷ tokens)

@@ -13,7 +13,7 @@ use Rattle.ext_mean.specs.declared.tree.Function.{Function}
 use Rattle.ext_mean.specs.Grammar.{plain, variable, MoreArguments, no_arguments, arguments, Arguments, set, set8, copy, Braces, open_end, returning, end_statements, statement, Sentence, MoreFunctions, Disjunction}
 use Rattle.ext_mean.specs.Grammar as grammar
 use Rattle.ext_mean.specs.Wording.{open_, close, close_block, comma, semicolon, assigns, disjunction_tokens, more_arguments_tokens, arguments_tokens}
-use Rattle.ext_grammar.specs.Coming.{AroundBlock, if_block, else_block, while_block, some_block, none_block, function_body, AroundStatement, in_block, call_argument, let_value, assigned, if_test, while_test, get_table, multiget_table, del_table, answered, returned, Coming, functions, level_operand, closed, function_of, on_value, on_behind_name, on_first_argument, on_statement, on_statements, on_done, on_else}
+use Rattle.ext_grammar.specs.Coming.{AroundBlock, if_block, else_block, while_block, some_block, none_block, function_body, AroundStatement, in_block, call_argument, let_value, assigned, if_test, while_test, get_table, multiget_table, del_table, answered, returned, functions, level_operand, closed, function_of, on_value, on_behind_name, on_first_argument, on_statement, on_statements, on_done, on_else}
 use Rattle.ext_grammar.proofs.BareTokens.{braces_tokens, statements_tokens, sentence_tokens, arms_tokens}
 use Rattle.ext_grammar.proofs.Continuing.{Reads, Otherwise, no_else, otherwise, otherwise_tokens, Valued, valued, calling, valued_tokens, inner_tokens, AreFunctions, AfterBlock, AfterStatement, AfterExpr, Continues}
 use Rattle.ext_grammar.proofs.Joined.{Then, joined, whole-read}
@@ -78,11 +78,15 @@ pub arguments-step : (name : List ℕ) (of : Kind) (called : List ℕ) (around :
 arguments-step name of called around before (token.Mark mark.Close) tokens (rest, one, after) =
     (no_arguments, (rest, ap (λ it. close ∷ it) one, after))
 arguments-step name of called around before next tokens read =
-    let (whole, (rest, one, (more, (last, two, after)))) = whole-read (call_argument name of called [] around) (next ∷ tokens) (unary-step (level_operand (call_argument name of called [] around)) before next tokens read) in
-    (arguments whole more, (last,
-    joined (disjunction_tokens whole) (more_arguments_tokens more ++ close ∷ semicolon ∷ []) (next ∷ tokens) rest last one two
-    ∙ ap (λ it. it ++ last) (sym (append_assoc (disjunction_tokens whole) (more_arguments_tokens more) (close ∷ semicolon ∷ []))),
-    after))
+    let (whole, (rest, one, (more, (last, two, after)))) = whole-read (call_argument name of called [] around) (next ∷ tokens) (unary-step (level_operand (call_argument name of called [] around)) before next tokens read) in (
+      arguments whole more,
+      (
+        last,
+        joined (disjunction_tokens whole) (more_arguments_tokens more ++ close ∷ semicolon ∷ []) (next ∷ tokens) rest last one two
+            ∙ ap (λ it. it ++ last) (sym (append_assoc (disjunction_tokens whole) (more_arguments_tokens more) (close ∷ semicolon ∷ []))),
+        after,
+      ),
+    )
 
 -- statements
 pub statement-step : (around : AroundStatement) (next : Token) (tokens : List Token) → Then (on_statement around next) tokens → AfterStatement around (next ∷ tokens)
@@ -96,9 +100,12 @@ statement-step around (token.Word word.Let) tokens (name, of, calling called val
     stated around (token.Word word.Let ∷ tokens) (grammar.let_call name of called values) (rest, ap (λ it. token.Word word.Let ∷ it) one, after)
 statement-step around (token.Word word.If) tokens read =
     let (test, (rest, one, (block, other, (last, two, after)))) = whole-read (if_test around) tokens read in
-    stated around (token.Word word.If ∷ tokens) (if-sentence test block other)
-    (last, ap (λ it. token.Word word.If ∷ it) (joined (disjunction_tokens test) (braces_tokens block ++ otherwise_tokens other) tokens rest last one two)
-    ∙ ap (λ it. it ++ last) (if-is test block other), after)
+    stated around (token.Word word.If ∷ tokens) (if-sentence test block other) (
+      last,
+      ap (λ it. token.Word word.If ∷ it) (joined (disjunction_tokens test) (braces_tokens block ++ otherwise_tokens other) tokens rest last one two)
+          ∙ ap (λ it. it ++ last) (if-is test block other),
+      after,
+    )
 statement-step around (token.Word word.While) tokens read =
     let (test, (rest, one, (block, (last, two, after)))) = whole-read (while_test around) tokens read in
     stated around (token.Word word.While ∷ tokens) (grammar.while test block)
