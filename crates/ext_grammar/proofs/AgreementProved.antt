@@ -13,7 +13,8 @@ use Rattle.ext_grammar.proofs.Explained.{Explains, whole-explained}
 
 pub programs-are-accepted : ProgramsAreAccepted
 programs-are-accepted placed ending program lines complete make =
-    followed ending complete (program_tree make.whole) (program_slots make.whole) placed [] (functions []) none_counted [] start
+    followed ending complete (program_tree make.whole) (program_slots make.whole) placed []
+    (functions []) none_counted [] start
     (program-leads make.whole) make.sentence make.bounds
     ∙ ap (λ it. accepted it (item_lines (program_slots make.whole) placed)) (sym make.tree)
     ∙ ap (λ it. accepted program it) (sym make.places)

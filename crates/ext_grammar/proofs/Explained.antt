@@ -29,16 +29,23 @@ module _ (all : List Placed) (ending : Ending) where
   Explains (faulty line which) = First all ending line which
 
   -- at the end of the tokens
-  unended : (coming : Coming) (counted : Counted) (slots : List Slot) → Reached all coming counted slots → ((program : Program) → Ended coming program → ⊥) → First all ending ending.line ending.code
+  unended : (coming : Coming) (counted : Counted) (slots : List Slot) →
+      Reached all coming counted slots → ((program : Program) → Ended coming program → ⊥) →
+      First all ending ending.line ending.code
   unended coming counted slots reached none =
       at_end (begun reached) (λ complete whole same.
-      none (program_tree whole) (fitting reached whole (program_slots whole) [] (sym (append-nil (program_slots whole))) same).1)
+      none (program_tree whole) (fitting reached whole (program_slots whole) []
+      (sym (append-nil (program_slots whole))) same).1)
 
-  made : (first : Function) (more : List Function) (counted : Counted) (slots : List Slot) → Reached all (functions (first ∷ more)) counted slots → Make all (record { functions = first ∷ more }) counted.lines
+  made : (first : Function) (more : List Function) (counted : Counted) (slots : List Slot) →
+      Reached all (functions (first ∷ more)) counted slots →
+      Make all (record { functions = first ∷ more }) counted.lines
   made first more counted slots reached =
       let (whole, same) = reached-back reached [] (end_functions, refl) in
-      let sentence : program_tokens whole ≡ tokens_of all = whole-are whole ∙ sym same ∙ append-nil (tokens_of all) in
-      let (front, ended) = fitting reached whole (program_slots whole) [] (sym (append-nil (program_slots whole))) sentence in
+      let sentence : program_tokens whole ≡ tokens_of all = whole-are whole ∙ sym same
+      ∙ append-nil (tokens_of all) in
+      let (front, ended) = fitting reached whole (program_slots whole) []
+      (sym (append-nil (program_slots whole))) sentence in
       let P : List Slot → Type 0 = λ it. AreBounded it in
       record {
         whole = whole;
@@ -48,17 +55,28 @@ module _ (all : List Placed) (ending : Ending) where
         places = (reached-counts reached).lines ∙ ap (λ it. item_lines it all) (sym front);
       }
 
-  ended-so : (complete : Bool) (first : Function) (more : List Function) (counted : Counted) (slots : List Slot) → ending.complete ≡ complete → Reached all (functions (first ∷ more)) counted slots → Explains (if complete then accepted (record { functions = first ∷ more }) counted.lines else faulty ending.line ending.code)
-  ended-so true first more counted slots same reached = (same, made first more counted slots reached)
+  ended-so : (complete : Bool) (first : Function) (more : List Function) (counted : Counted)
+      (slots : List Slot) → ending.complete ≡ complete →
+      Reached all (functions (first ∷ more)) counted slots →
+      Explains (if complete then accepted (record { functions = first ∷ more }) counted.lines else
+      faulty ending.line ending.code)
+  ended-so true first more counted slots same reached =
+      (same, made first more counted slots reached)
   ended-so false first more counted slots same reached =
       at_end (begun reached) (λ complete whole others. absurd (cc))
 
-  end-explained : (coming : Coming) (counted : Counted) (slots : List Slot) → Reached all coming counted slots → Explains (reading.at_end coming counted ending)
-  end-explained (functions (first ∷ more)) counted slots reached = ended-so ending.complete first more counted slots refl reached
-  end-explained coming counted slots reached = unended coming counted slots reached (λ program ended. ended)
+  end-explained : (coming : Coming) (counted : Counted) (slots : List Slot) →
+      Reached all coming counted slots → Explains (reading.at_end coming counted ending)
+  end-explained (functions (first ∷ more)) counted slots reached =
+      ended-so ending.complete first more counted slots refl reached
+  end-explained coming counted slots reached =
+      unended coming counted slots reached (λ program ended. ended)
 
   -- at the next token
-  module _ (placed : List Placed) (coming : Coming) (counted : Counted) (slots : List Slot) (reached : Reached placed coming counted slots) (next : Placed) (rest : List Placed) (split : all ≡ placed ++ next ∷ rest) (short : IsTooLong next.token → ⊥) (shallow : IsTooDeep (tokens_of placed) next.token → ⊥) where
+  module _ (placed : List Placed) (coming : Coming) (counted : Counted) (slots : List Slot)
+      (reached : Reached placed coming counted slots) (next : Placed) (rest : List Placed)
+      (split : all ≡ placed ++ next ∷ rest) (short : IsTooLong next.token → ⊥)
+      (shallow : IsTooDeep (tokens_of placed) next.token → ⊥) where
     abbrev before : ℕ
     before = open_operators coming counted.operators
 
@@ -68,42 +86,73 @@ module _ (all : List Placed) (ending : Ending) where
     too-many : GoesOnTooMany (tokens_of placed) next.token → First all ending next.line code.Many
     too-many too = at_token placed next rest split (begun reached) (many short shallow too)
 
-    moved-so : (full : Bool) (move : Move) → on_token coming before next.token ≡ Some move → is_operator next.token && nat_le 64 before ≡ false → is_full_of_functions counted.functions next.token || is_full_of_locals counted.locals move.standing ≡ full → (IsBounded slots (slot next.token move.standing) → Explains (answer move.coming (counting counted next move) ending rest)) → Explains (answered (if full then stops next.line code.Many else goes move.coming (counting counted next move)) onwards)
+    moved-so : (full : Bool) (move : Move) → on_token coming before next.token ≡ Some move →
+        is_operator next.token && nat_le 64 before ≡ false →
+        is_full_of_functions counted.functions next.token || is_full_of_locals counted.locals
+        move.standing ≡ full → (IsBounded slots (slot next.token move.standing) →
+        Explains (answer move.coming (counting counted next move) ending rest)) →
+        Explains (answered (if full then stops next.line code.Many else goes move.coming
+        (counting counted next move)) onwards)
     moved-so true move moved few full again =
-        elim (either-true (is_full_of_functions counted.functions next.token) (is_full_of_locals counted.locals move.standing) full) [
-          | inl one ↦ too-many (many-functions placed coming counted slots reached next.token move moved one)
-          | inr one ↦ too-many (many-locals placed coming counted slots reached next.token move moved one)
+        elim (either-true (is_full_of_functions counted.functions next.token)
+        (is_full_of_locals counted.locals move.standing) full) [
+          | inl one ↦ too-many (many-functions placed coming counted slots reached next.token move
+              moved one)
+          | inr one ↦ too-many (many-locals placed coming counted slots reached next.token move
+              moved one)
         ]
     moved-so false move moved few full again =
-        let (one, two) = neither-true (is_full_of_functions counted.functions next.token) (is_full_of_locals counted.locals move.standing) full in
-        again (bounded placed coming counted slots reached next.token move moved short shallow few one two)
+        let (one, two) = neither-true (is_full_of_functions counted.functions next.token)
+        (is_full_of_locals counted.locals move.standing) full in
+        again (bounded placed coming counted slots reached next.token move moved short shallow few
+        one two)
 
-    found-so : (found : Option Move) → on_token coming before next.token ≡ found → is_operator next.token && nat_le 64 before ≡ false → ((move : Move) → on_token coming before next.token ≡ Some move → IsBounded slots (slot next.token move.standing) → Explains (answer move.coming (counting counted next move) ending rest)) → Explains (answered (met_by counted next found) onwards)
+    found-so : (found : Option Move) → on_token coming before next.token ≡ found →
+        is_operator next.token && nat_le 64 before ≡ false →
+        ((move : Move) → on_token coming before next.token ≡ Some move →
+        IsBounded slots (slot next.token move.standing) →
+        Explains (answer move.coming (counting counted next move) ending rest)) →
+        Explains (answered (met_by counted next found) onwards)
     found-so None none few again =
         at_token placed next rest split (begun reached) (expected short shallow
         (not-many placed coming counted slots reached next.token none few)
         (not-begun placed coming counted slots reached next.token none))
     found-so (Some move) moved few again =
-        moved-so (is_full_of_functions counted.functions next.token || is_full_of_locals counted.locals move.standing) move moved few refl (again move moved)
+        moved-so (is_full_of_functions counted.functions next.token || is_full_of_locals
+        counted.locals move.standing) move moved few refl (again move moved)
 
-    token-so : (full : Bool) → is_operator next.token && nat_le 64 before ≡ full → ((move : Move) → on_token coming before next.token ≡ Some move → IsBounded slots (slot next.token move.standing) → Explains (answer move.coming (counting counted next move) ending rest)) → Explains (answered (if full then stops next.line code.Many else met_by counted next (on_token coming before next.token)) onwards)
+    token-so : (full : Bool) → is_operator next.token && nat_le 64 before ≡ full →
+        ((move : Move) → on_token coming before next.token ≡ Some move →
+        IsBounded slots (slot next.token move.standing) →
+        Explains (answer move.coming (counting counted next move) ending rest)) →
+        Explains (answered (if full then stops next.line code.Many else met_by counted next
+        (on_token coming before next.token)) onwards)
     token-so true full again =
         let (one, two) = both-true (is_operator next.token) (nat_le 64 before) full in
-        too-many (many-operators placed coming counted slots reached next.token one (leb-true 64 before two))
+        too-many (many-operators placed coming counted slots reached next.token one
+        (leb-true 64 before two))
     token-so false few again = found-so (on_token coming before next.token) refl few again
 
-    pub next-explained : ((move : Move) → on_token coming before next.token ≡ Some move → IsBounded slots (slot next.token move.standing) → Explains (answer move.coming (counting counted next move) ending rest)) → Explains (answered (met coming counted next) onwards)
+    pub next-explained : ((move : Move) → on_token coming before next.token ≡ Some move →
+        IsBounded slots (slot next.token move.standing) →
+        Explains (answer move.coming (counting counted next move) ending rest)) →
+        Explains (answered (met coming counted next) onwards)
     next-explained again = token-so (is_operator next.token && nat_le 64 before) refl again
 
   module _ (sound : AreSoundAlone all) where
-    explained : (rest placed : List Placed) (coming : Coming) (counted : Counted) (slots : List Slot) → Reached placed coming counted slots → all ≡ placed ++ rest → Explains (answer coming counted ending rest)
+    explained : (rest placed : List Placed) (coming : Coming) (counted : Counted)
+        (slots : List Slot) → Reached placed coming counted slots → all ≡ placed ++ rest →
+        Explains (answer coming counted ending rest)
     explained [] placed coming counted slots reached split =
         let P : List Placed → Type 0 = λ it. Reached it coming counted slots in
         end-explained coming counted slots (subst P (sym (split ∙ append-nil placed)) reached)
     explained (next ∷ rest) placed coming counted slots reached split =
-        next-explained placed coming counted slots reached next rest split (sound placed next rest split).0 (sound placed next rest split).1
-        (λ move moved within. explained rest (placed ++ next ∷ []) move.coming (counting counted next move) (slots ++ slot next.token move.standing ∷ [])
-        (onward reached next move moved within) (split ∙ sym (append_assoc placed (next ∷ []) rest)))
+        next-explained placed coming counted slots reached next rest split
+        (sound placed next rest split).0 (sound placed next rest split).1
+        (λ move moved within. explained rest (placed ++ next ∷ []) move.coming
+        (counting counted next move) (slots ++ slot next.token move.standing ∷ [])
+        (onward reached next move moved within)
+        (split ∙ sym (append_assoc placed (next ∷ []) rest)))
 
     pub whole-explained : Explains (answer (functions []) none_counted ending all)
     whole-explained = explained all [] (functions []) none_counted [] start refl

@@ -34,34 +34,53 @@ Kept state before next (Some move) =
     (operators_at move.standing ≡ before) × Zeroed move.coming move.operators
     × (IsNaming move.standing → Declares state × IsAnyName next)
 
-pub kept-if : (state : Coming) (before : ℕ) (next : Token) (test : Bool) (move other : Option Move) → Kept state before next move → Kept state before next other → Kept state before next (if test then move else other)
+pub kept-if : (state : Coming) (before : ℕ) (next : Token) (test : Bool)
+    (move other : Option Move) → Kept state before next move → Kept state before next other →
+    Kept state before next (if test then move else other)
 kept-if state before next true move other one two = one
 kept-if state before next false move other one two = two
 
-pub kept-mark : (state : Coming) (before : ℕ) (next : Token) (of : Mark) (move : Option Move) → Kept state before next move → Kept state before next (on_mark of next move)
+pub kept-mark : (state : Coming) (before : ℕ) (next : Token) (of : Mark) (move : Option Move) →
+    Kept state before next move → Kept state before next (on_mark of next move)
 kept-mark state before next of move kept = kept-if state before next _ move None kept tt
 
-pub kept-some : {A : Type 0} (state : Coming) (before : ℕ) (next : Token) (found : Option A) (move : A → Option Move) → ((value : A) → Kept state before next (move value)) → Kept state before next (on_some found move)
+pub kept-some : {A : Type 0} (state : Coming) (before : ℕ) (next : Token) (found : Option A)
+    (move : A → Option Move) → ((value : A) → Kept state before next (move value)) →
+    Kept state before next (on_some found move)
 kept-some state before next (Some value) move kept = kept value
 kept-some state before next None move kept = tt
 
-pub kept-name : (state : Coming) (before : ℕ) (next : Token) (move : List ℕ → Option Move) → (IsAnyName next → (name : List ℕ) → Kept state before next (move name)) → Kept state before next (on_some (name_of next) move)
+pub kept-name : (state : Coming) (before : ℕ) (next : Token) (move : List ℕ → Option Move) →
+    (IsAnyName next → (name : List ℕ) → Kept state before next (move name)) →
+    Kept state before next (on_some (name_of next) move)
 kept-name state before (token.Name name) move kept = kept tt name
 kept-name state before _ move kept = tt
 
-pub kept-chain : (state : Coming) (before : ℕ) (next : Token) (level : Level) (left : Expr) (around : AroundExpr) (operator : Option BinOp) (other : Option Move) → Kept state before next other → Kept state before next (on_chain level left around before operator other)
+pub kept-chain : (state : Coming) (before : ℕ) (next : Token) (level : Level) (left : Expr)
+    (around : AroundExpr) (operator : Option BinOp) (other : Option Move) →
+    Kept state before next other →
+    Kept state before next (on_chain level left around before operator other)
 kept-chain state before next level left around (Some operator) other kept =
-    kept-if state before next (is_level level (level_of operator)) _ other (refl, tt, λ it. absurd it) kept
+    kept-if state before next (is_level level (level_of operator)) _ other
+    (refl, tt, λ it. absurd it) kept
 kept-chain state before next level left around None other kept = kept
 
-pub kept-longer-chain : (state : Coming) (before : ℕ) (next : Token) (level : Level) (left : Expr) (around : AroundExpr) (operator : Option BinOp) (other : Option Move) → Kept state before next other → Kept state before next (on_longer_chain level left around before operator other)
+pub kept-longer-chain : (state : Coming) (before : ℕ) (next : Token) (level : Level) (left : Expr)
+    (around : AroundExpr) (operator : Option BinOp) (other : Option Move) →
+    Kept state before next other →
+    Kept state before next (on_longer_chain level left around before operator other)
 kept-longer-chain state before next comparing left around operator other kept = kept
-kept-longer-chain state before next disjoining left around operator other kept = kept-chain state before next disjoining left around operator other kept
-kept-longer-chain state before next conjoining left around operator other kept = kept-chain state before next conjoining left around operator other kept
-kept-longer-chain state before next adding left around operator other kept = kept-chain state before next adding left around operator other kept
-kept-longer-chain state before next multiplying left around operator other kept = kept-chain state before next multiplying left around operator other kept
+kept-longer-chain state before next disjoining left around operator other kept =
+    kept-chain state before next disjoining left around operator other kept
+kept-longer-chain state before next conjoining left around operator other kept =
+    kept-chain state before next conjoining left around operator other kept
+kept-longer-chain state before next adding left around operator other kept =
+    kept-chain state before next adding left around operator other kept
+kept-longer-chain state before next multiplying left around operator other kept =
+    kept-chain state before next multiplying left around operator other kept
 
-pub done-zeroed : (statement : Statement) (around : AroundStatement) → Zeroed (done statement around) 0
+pub done-zeroed : (statement : Statement) (around : AroundStatement) →
+    Zeroed (done statement around) 0
 done-zeroed statement (in_block known around) = refl
 
 pub closed-zeroed : (block : Block) (around : AroundBlock) → Zeroed (closed block around) 0

@@ -14,9 +14,12 @@ use Rattle.ext_grammar.proofs.Walks.{Takes, Walk, counted, counted-append, goes,
 abbrev pub Leads : Program → List Token → Coming → Coming → Type 0
 Leads program tokens from to =
     (before : ℕ) (rest : List Slot) →
-    Walk rest to (counted before tokens) program → Walk (goes before tokens rest) from before program
+    Walk rest to (counted before tokens) program → Walk (goes before tokens rest) from before
+    program
 
-pub join : (program : Program) (first second : List Token) (from middle to : Coming) → Leads program first from middle → Leads program second middle to → Leads program (first ++ second) from to
+pub join : (program : Program) (first second : List Token) (from middle to : Coming) →
+    Leads program first from middle → Leads program second middle to →
+    Leads program (first ++ second) from to
 join program first second from middle to one two before rest walk =
     rw (goes-append first second before rest)
     (one before (goes (counted before first) second rest)
@@ -37,7 +40,8 @@ Below bound (right level operator left around) = (tightness level < bound) × Be
 Below bound (negated around) = Below bound around
 Below bound other = Unit {0}
 
-pub below-more : (around : AroundExpr) (low high : ℕ) → low ≤ high → Below low around → Below high around
+pub below-more : (around : AroundExpr) (low high : ℕ) → low ≤ high → Below low around →
+    Below high around
 below-more (chain level around) low high more (first, rest) =
     (omega arith, below-more around low high more rest)
 below-more (right level operator left around) low high more (first, rest) =
@@ -45,7 +49,8 @@ below-more (right level operator left around) low high more (first, rest) =
 below-more (negated around) low high more all = below-more around low high more all
 below-more _ low high more all = tt
 
-level-apart : (first second : Level) → tightness first < tightness second → is_level first second ≡ false
+level-apart : (first second : Level) → tightness first < tightness second → is_level first second
+    ≡ false
 level-apart disjoining disjoining less = absurd (omega arith)
 level-apart conjoining conjoining less = absurd (omega arith)
 level-apart comparing comparing less = absurd (omega arith)
@@ -62,28 +67,42 @@ level-same multiplying multiplying same = refl
 level-same _ _ same = cc
 
 -- no operator of this level or a tighter one goes on
-rejected : (around : AroundExpr) (bound : ℕ) → Below bound around → (operator : BinOp) → bound ≤ tightness (level_of operator) → (found : Expr) (before : ℕ) → on_behind found around before (token.Binary operator) ≡ None
+rejected : (around : AroundExpr) (bound : ℕ) → Below bound around → (operator : BinOp) →
+    bound ≤ tightness (level_of operator) → (found : Expr) (before : ℕ) →
+    on_behind found around before (token.Binary operator) ≡ None
 rejected (chain level around) bound (first, rest) operator high found before =
-    rw (level-apart level (level_of operator) (omega arith)) (rejected around bound rest operator high found before)
+    rw (level-apart level (level_of operator) (omega arith))
+    (rejected around bound rest operator high found before)
 rejected (right disjoining by left around) bound (first, rest) operator high found before =
-    rw (level-apart disjoining (level_of operator) (omega arith)) (rejected around bound rest operator high (expr.Bin by left found) before)
+    rw (level-apart disjoining (level_of operator) (omega arith))
+    (rejected around bound rest operator high (expr.Bin by left found) before)
 rejected (right conjoining by left around) bound (first, rest) operator high found before =
-    rw (level-apart conjoining (level_of operator) (omega arith)) (rejected around bound rest operator high (expr.Bin by left found) before)
+    rw (level-apart conjoining (level_of operator) (omega arith))
+    (rejected around bound rest operator high (expr.Bin by left found) before)
 rejected (right comparing by left around) bound (first, rest) operator high found before =
     rejected around bound rest operator high (expr.Bin by left found) before
 rejected (right adding by left around) bound (first, rest) operator high found before =
-    rw (level-apart adding (level_of operator) (omega arith)) (rejected around bound rest operator high (expr.Bin by left found) before)
+    rw (level-apart adding (level_of operator) (omega arith))
+    (rejected around bound rest operator high (expr.Bin by left found) before)
 rejected (right multiplying by left around) bound (first, rest) operator high found before =
-    rw (level-apart multiplying (level_of operator) (omega arith)) (rejected around bound rest operator high (expr.Bin by left found) before)
-rejected (negated around) bound all operator high found before = rejected around bound all operator high (expr.Not found) before
+    rw (level-apart multiplying (level_of operator) (omega arith))
+    (rejected around bound rest operator high (expr.Bin by left found) before)
+rejected (negated around) bound all operator high found before =
+    rejected around bound all operator high (expr.Not found) before
 rejected _ bound all operator high found before = refl
 
-skip-operator : (same : Bool) (move otherwise : Option Move) (standing : Standing) (more : Coming → ℕ → Type 0) → (same ≡ true → otherwise ≡ None) → Takes otherwise standing more → Takes (if same then move else otherwise) standing more
+skip-operator : (same : Bool) (move otherwise : Option Move) (standing : Standing)
+    (more : Coming → ℕ → Type 0) → (same ≡ true → otherwise ≡ None) →
+    Takes otherwise standing more → Takes (if same then move else otherwise) standing more
 skip-operator true move otherwise standing more none takes =
-    absurd (let P : Option Move → Type 0 = λ it. Takes it standing more in subst P (none refl) takes)
+    absurd (let P : Option Move → Type 0 =
+    λ it. Takes it standing more in subst P (none refl) takes)
 skip-operator false move otherwise standing more none takes = takes
 
-skip-token : (level : Level) (around : AroundExpr) → Below (tightness level) around → (found : Expr) (before : ℕ) (next : Token) (standing : Standing) (more : Coming → ℕ → Type 0) → Takes (on_behind found around before next) standing more → Takes (on_behind found (chain level around) before next) standing more
+skip-token : (level : Level) (around : AroundExpr) → Below (tightness level) around →
+    (found : Expr) (before : ℕ) (next : Token) (standing : Standing) (more : Coming → ℕ → Type 0) →
+    Takes (on_behind found around before next) standing more →
+    Takes (on_behind found (chain level around) before next) standing more
 skip-token level around below found before (token.Binary operator) standing more takes =
     skip-operator (is_level level (level_of operator)) _ _ standing more
     (λ same. rejected around (tightness level) below operator
@@ -92,20 +111,30 @@ skip-token level around below found before (token.Binary operator) standing more
 skip-token level around below found before _ standing more takes = takes
 
 -- no operator of a level follows
-pub skip : (program : Program) (level : Level) (around : AroundExpr) → Below (tightness level) around → (found : Expr) (before : ℕ) (rest : List Slot) → Walk rest (behind found around) before program → Walk rest (behind found (chain level around)) before program
+pub skip : (program : Program) (level : Level) (around : AroundExpr) →
+    Below (tightness level) around → (found : Expr) (before : ℕ) (rest : List Slot) →
+    Walk rest (behind found around) before program →
+    Walk rest (behind found (chain level around)) before program
 skip program level around below found before [] walk = walk
 skip program level around below found before (next ∷ rest) walk =
     skip-token level around below found before next.token next.standing _ walk
 
 -- behind a right side, what may follow is what may follow the operation
-pub right-goes : (program : Program) (level : Level) (apart : is_level comparing level ≡ false) (operator : BinOp) (left found : Expr) (around : AroundExpr) (before : ℕ) (rest : List Slot) → Walk rest (behind (expr.Bin operator left found) (chain level around)) before program → Walk rest (behind found (right level operator left around)) before program
+pub right-goes : (program : Program) (level : Level) (apart : is_level comparing level ≡ false)
+    (operator : BinOp) (left found : Expr) (around : AroundExpr) (before : ℕ) (rest : List Slot) →
+    Walk rest (behind (expr.Bin operator left found) (chain level around)) before program →
+    Walk rest (behind found (right level operator left around)) before program
 right-goes program level apart operator left found around before [] walk = walk
 right-goes program disjoining apart operator left found around before (next ∷ rest) walk = walk
 right-goes program conjoining apart operator left found around before (next ∷ rest) walk = walk
-right-goes program comparing apart operator left found around before (next ∷ rest) walk = absurd (cc)
+right-goes program comparing apart operator left found around before (next ∷ rest) walk =
+    absurd (cc)
 right-goes program adding apart operator left found around before (next ∷ rest) walk = walk
 right-goes program multiplying apart operator left found around before (next ∷ rest) walk = walk
 
-pub right-compared : (program : Program) (operator : BinOp) (left found : Expr) (around : AroundExpr) (before : ℕ) (rest : List Slot) → Walk rest (behind (expr.Bin operator left found) around) before program → Walk rest (behind found (right comparing operator left around)) before program
+pub right-compared : (program : Program) (operator : BinOp) (left found : Expr)
+    (around : AroundExpr) (before : ℕ) (rest : List Slot) →
+    Walk rest (behind (expr.Bin operator left found) around) before program →
+    Walk rest (behind found (right comparing operator left around)) before program
 right-compared program operator left found around before [] walk = walk
 right-compared program operator left found around before (next ∷ rest) walk = walk

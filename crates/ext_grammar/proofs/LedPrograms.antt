@@ -18,8 +18,13 @@ module _ (all : Program) where
   abbrev param : List ℕ → Kind → Param
   param name of = record { name = name; kind = of }
 
-  more-parameters-lead : (more : MoreParameters) (known : List Function) (name : List ℕ) (params : List Param) (rest : List Slot) → Walk rest (fixed mark.Arrow (result_kind known name (params ++ more_parameters_tree more))) 0 all → Walk (more_parameters_slots more ++ (slot close (inside 0) ∷ rest)) (behind_parameter known name params) 0 all
-  more-parameters-lead end_parameters known name params rest walk = (refl, rw (append-nil params) at walk)
+  more-parameters-lead : (more : MoreParameters) (known : List Function) (name : List ℕ)
+      (params : List Param) (rest : List Slot) →
+      Walk rest (fixed mark.Arrow (result_kind known name (params ++ more_parameters_tree more))) 0
+      all → Walk (more_parameters_slots more ++ (slot close (inside 0) ∷ rest))
+      (behind_parameter known name params) 0 all
+  more-parameters-lead end_parameters known name params rest walk =
+      (refl, rw (append-nil params) at walk)
   more-parameters-lead (parameter next of more) known name params rest walk = (
     refl,
     (
@@ -35,12 +40,24 @@ module _ (all : Program) where
     ),
   )
 
-  parameters-lead : (params : Parameters) (known : List Function) (name : List ℕ) (rest : List Slot) → Walk rest (fixed mark.Arrow (result_kind known name (parameters_tree params))) 0 all → Walk (parameters_slots params ++ (slot close (inside 0) ∷ rest)) (first_parameter known name) 0 all
+  parameters-lead : (params : Parameters) (known : List Function) (name : List ℕ)
+      (rest : List Slot) → Walk rest
+      (fixed mark.Arrow (result_kind known name (parameters_tree params))) 0 all →
+      Walk (parameters_slots params ++ (slot close (inside 0) ∷ rest))
+      (first_parameter known name) 0 all
   parameters-lead no_parameters known name rest walk = (refl, walk)
-  parameters-lead (parameters next of more) known name rest walk =
-      (refl, (refl, kind-step of _ _ _ (refl, more-parameters-lead more known name (param next of ∷ []) rest walk)))
+  parameters-lead (parameters next of more) known name rest walk = (
+    refl,
+    (
+      refl,
+      kind-step of _ _ _
+          (refl, more-parameters-lead more known name (param next of ∷ []) rest walk),
+    ),
+  )
 
-  definition-leads : (first : Definition) (known : List Function) (rest : List Slot) → Walk rest (functions (known ++ definition_tree first ∷ [])) 0 all → Walk (definition_slots first ++ rest) (functions known) 0 all
+  definition-leads : (first : Definition) (known : List Function) (rest : List Slot) →
+      Walk rest (functions (known ++ definition_tree first ∷ [])) 0 all →
+      Walk (definition_slots first ++ rest) (functions known) 0 all
   definition-leads (function name params result body) known rest walk = (
     refl,
     (
@@ -48,23 +65,38 @@ module _ (all : Program) where
       (
         refl,
         along all (first_parameter known name) 0
-            ((parameters_slots params ++ (slot close (inside 0) ∷ slot (token.Mark mark.Arrow) (inside 0) ∷ slot (kind_token result) (inside 0) ∷ braces_slots body 0)) ++ rest)
-            (parameters_slots params ++ (slot close (inside 0) ∷ slot (token.Mark mark.Arrow) (inside 0) ∷ slot (kind_token result) (inside 0) ∷ (braces_slots body 0 ++ rest)))
-            (append_assoc (parameters_slots params) (slot close (inside 0) ∷ slot (token.Mark mark.Arrow) (inside 0) ∷ slot (kind_token result) (inside 0) ∷ braces_slots body 0) rest)
-            (parameters-lead params known name (slot (token.Mark mark.Arrow) (inside 0) ∷ slot (kind_token result) (inside 0) ∷ (braces_slots body 0 ++ rest))
-            (refl, kind-step result _ _ _ (refl, braces-lead all body (function_body known name (parameters_tree params) result) 0 rest walk))),
+            ((parameters_slots params ++ (slot close (inside 0) ∷ slot (token.Mark mark.Arrow)
+            (inside 0) ∷ slot (kind_token result) (inside 0) ∷ braces_slots body 0)) ++ rest)
+            (parameters_slots params ++ (slot close (inside 0) ∷ slot (token.Mark mark.Arrow)
+            (inside 0) ∷ slot (kind_token result) (inside 0) ∷ (braces_slots body 0 ++ rest)))
+            (append_assoc (parameters_slots params)
+            (slot close (inside 0) ∷ slot (token.Mark mark.Arrow) (inside 0) ∷ slot
+            (kind_token result) (inside 0) ∷ braces_slots body 0) rest)
+            (parameters-lead params known name
+            (slot (token.Mark mark.Arrow) (inside 0) ∷ slot (kind_token result)
+            (inside 0) ∷ (braces_slots body 0 ++ rest)) (
+              refl,
+              kind-step result _ _ _ (
+                refl,
+                braces-lead all body
+                    (function_body known name (parameters_tree params) result) 0 rest walk,
+              ),
+            )),
       ),
     ),
   )
 
-  functions-lead : (more : MoreFunctions) (known : List Function) → Walk [] (functions (known ++ more_functions_tree more)) 0 all → Walk (more_functions_slots more) (functions known) 0 all
+  functions-lead : (more : MoreFunctions) (known : List Function) →
+      Walk [] (functions (known ++ more_functions_tree more)) 0 all →
+      Walk (more_functions_slots more) (functions known) 0 all
   functions-lead end_functions known walk = rw (append-nil known) at walk
   functions-lead (define next more) known walk =
       definition-leads next known (more_functions_slots more)
       (functions-lead more (known ++ definition_tree next ∷ [])
       (rw (append_assoc known (definition_tree next ∷ []) (more_functions_tree more)) walk))
 
-pub program-leads : (whole : Whole) → Walk (program_slots whole) (functions []) 0 (program_tree whole)
+pub program-leads : (whole : Whole) → Walk (program_slots whole)
+    (functions []) 0 (program_tree whole)
 program-leads (program first more) =
     definition-leads (program_tree (program first more)) first [] (more_functions_slots more)
     (functions-lead (program_tree (program first more)) more (definition_tree first ∷ []) refl)

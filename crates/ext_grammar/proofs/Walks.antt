@@ -36,29 +36,36 @@ counted before (first ∷ more) = counted (with_token first before) more
 -- these tokens inside an item, and then the rest
 abbrev pub goes : ℕ → List Token → List Slot → List Slot
 goes before [] rest = rest
-goes before (first ∷ more) rest = slot first (inside before) ∷ goes (with_token first before) more rest
+goes before (first ∷ more) rest =
+    slot first (inside before) ∷ goes (with_token first before) more rest
 
-pub counted-append : (first second : List Token) (before : ℕ) → counted before (first ++ second) ≡ counted (counted before first) second
+pub counted-append : (first second : List Token) (before : ℕ) → counted before (first ++ second)
+    ≡ counted (counted before first) second
 counted-append [] second before = refl
 counted-append (token ∷ first) second before = counted-append first second (with_token token before)
 
-pub goes-append : (first second : List Token) (before : ℕ) (rest : List Slot) → goes before (first ++ second) rest ≡ goes before first (goes (counted before first) second rest)
+pub goes-append : (first second : List Token) (before : ℕ) (rest : List Slot) →
+    goes before (first ++ second) rest ≡ goes before first (goes (counted before first) second rest)
 goes-append [] second before rest = refl
 goes-append (token ∷ first) second before rest =
-    ap (λ slots. slot token (inside before) ∷ slots) (goes-append first second (with_token token before) rest)
+    ap (λ slots. slot token (inside before) ∷ slots)
+    (goes-append first second (with_token token before) rest)
 
-pub with_token-is : (token : Token) (before : ℕ) → with_token token before ≡ (if is_operator token then 1 else 0) + before
+pub with_token-is : (token : Token) (before : ℕ) → with_token token before
+    ≡ (if is_operator token then 1 else 0) + before
 with_token-is token.Not before = omega arith
 with_token-is (token.Binary operator) before = omega arith
 with_token-is _ before = sym (zero-add before)
 
-pub goes-is : (tokens : List Token) (before : ℕ) (rest : List Slot) → going_on before tokens ++ rest ≡ goes before tokens rest
+pub goes-is : (tokens : List Token) (before : ℕ) (rest : List Slot) → going_on before tokens ++ rest
+    ≡ goes before tokens rest
 goes-is [] before rest = refl
 goes-is (first ∷ more) before rest =
     ap (λ slots. slot first (inside before) ∷ slots)
     (rw (← with_token-is first before) (goes-is more (with_token first before) rest))
 
-pub counted-is : (tokens : List Token) (before : ℕ) → counted before tokens ≡ before + operators tokens
+pub counted-is : (tokens : List Token) (before : ℕ) → counted before tokens
+    ≡ before + operators tokens
 counted-is [] before = omega arith
 counted-is (first ∷ more) before =
     let behind = counted-is more (with_token first before) in
