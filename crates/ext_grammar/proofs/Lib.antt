@@ -1,6 +1,7 @@
 pub mod Walks
 pub mod Leading
 pub mod LedExpressions
+pub mod Passing
 pub mod LedItems
 pub mod LedStatements
 pub mod LedPrograms

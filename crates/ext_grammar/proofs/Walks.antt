@@ -16,6 +16,10 @@ abbrev pub Takes : Option Move → Standing → (Coming → ℕ → Type 0) → 
 Takes None standing behind = ⊥
 Takes (Some move) standing behind = (move.standing ≡ standing) × behind move.coming move.operators
 
+-- the token that comes next stands where its slot says
+pub took : {A B : Type 0} {place : A} → B → (place ≡ place) × B
+took walk = (refl, walk)
+
 -- from here, where the open item has so many operators, the slots lead to the end of this program
 abbrev pub Walk : List Slot → Coming → ℕ → Program → Type 0
 Walk [] coming before program = Ended coming program
