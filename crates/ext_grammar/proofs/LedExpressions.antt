@@ -117,7 +117,7 @@ module _ (program : Program) where
       (behind (coming.double_expr kind (disjunction_tree first) (disjunction_tree second)) around)
   two-operands kind first second around one two before rest walk =
       let to : Coming =
-          behind (coming.double_expr kind (disjunction_tree first) (disjunction_tree second)) around
+      behind (coming.double_expr kind (disjunction_tree first) (disjunction_tree second)) around
       in
       took (followed-by (comma ∷ (disjunction_tokens second ++ close ∷ [])) first
       (first_of_two kind around) to one
@@ -137,8 +137,8 @@ module _ (program : Program) where
       (disjunction_tree third)) around)
   three-operands kind first second third around one two three before rest walk =
       let to : Coming =
-          behind (coming.triple_expr kind (disjunction_tree first) (disjunction_tree second)
-          (disjunction_tree third)) around
+      behind (coming.triple_expr kind (disjunction_tree first) (disjunction_tree second)
+      (disjunction_tree third)) around
       in
       took (followed-by
       (comma ∷ (disjunction_tokens second ++ comma ∷ (disjunction_tokens third ++ close ∷ []))) first

@@ -1,5 +1,5 @@
 -- The tokens of an item lead to the place behind it, where no operator is counted.
-use Rattle.std.proofs.Common.{◌≡◌, ℕ, List, [], ◌∷◌, ◌++◌, Option, refl, sym, append_assoc, subst}
+use Rattle.std.proofs.Common.{◌≡◌, ℕ, List, [], ◌∷◌, ◌++◌, Option, append_assoc}
 use Rattle.ext_mean.specs.declared.expr.Expr.{Expr}
 use Rattle.ext_mean.specs.declared.expr.Expr.TheVariants as expr
 use Rattle.ext_mean.specs.declared.statement.Kind.{Kind}
@@ -13,12 +13,13 @@ use Rattle.ext_mean.specs.declared.token.Word.TheVariants as word
 use Rattle.ext_mean.specs.declared.tree.Program.{Program}
 use Rattle.ext_mean.specs.Derived.{disjunction_tree, more_arguments_tree, arguments_tree, write_tree}
 use Rattle.ext_mean.specs.Grammar.{Disjunction, MoreArguments, end_arguments, argument, Arguments, no_arguments, arguments, Writing, set, set8, copy}
-use Rattle.ext_mean.specs.Wording.{Standing, Slot, open_, close, comma, semicolon, colon, assigns, kind_token, disjunction_tokens, more_arguments_tokens, arguments_tokens, let_slots, item, going_on, writing_word}
+use Rattle.ext_mean.specs.Wording.{Standing, begins, Slot, slot, open_, close, comma, semicolon, colon, assigns, kind_token, disjunction_tokens, more_arguments_tokens, arguments_tokens, let_slots, item, going_on, writing_word}
 use Rattle.ext_grammar.specs.Coming.{AroundExpr, AroundStatement, AroundBlock, in_block, call_argument, let_value, assigned, write_place, write_value, del_table, del_key, answered, Coming, fixed, behind, value, behind_name, first_argument, written_name, statements, expression, level_operand, Move, on_some, kind_of, on_unary, on_behind, on_value, on_behind_name, on_first_argument, on_token, done}
 use Rattle.ext_grammar.specs.Coming as coming
-use Rattle.ext_grammar.proofs.Walks.{Takes, Walk, counted, goes, goes-append, goes-is}
-use Rattle.ext_grammar.proofs.Leading.{Leads, join}
-use Rattle.ext_grammar.proofs.LedExpressions.{disjunction-leads}
+use Rattle.ext_grammar.proofs.Walks.{took, Takes, Walk, counted, goes, goes-append}
+use Rattle.ext_grammar.proofs.Leading.{Leads}
+use Rattle.ext_grammar.proofs.LedExpressions.{disjunction-leads, followed-by}
+use Rattle.ext_grammar.proofs.Passing.{Passes, passes-on}
 
 -- these tokens lead from inside an item to its end
 abbrev pub Closes : Program → List Token → Coming → Coming → Type 0
@@ -113,248 +114,195 @@ module _ (program : Program) where
       Leads program (more_arguments_tokens more ++ close ∷ [])
       (behind found (call_argument name of called values around))
       (call name of called (values ++ found ∷ more_arguments_tree more) around)
-  more-arguments-lead end_arguments name of called values found around =
-      λ before rest walk. (refl, walk)
-  more-arguments-lead (argument next more) name of called values found around =
-      λ before rest walk. (
-        refl,
-        rw (append_assoc (disjunction_tokens next) (more_arguments_tokens more) (close ∷ []))
-            (join program (disjunction_tokens next) (more_arguments_tokens more ++ close ∷ []) _
-            (behind (disjunction_tree next)
-            (call_argument name of called (values ++ found ∷ []) around))
-            (call name of called ((values ++ found ∷ []) ++ disjunction_tree next ∷ more_arguments_tree
-            more) around)
-            (disjunction-leads program next (call_argument name of called (values ++ found ∷ []) around)
-            tt)
-            (more-arguments-lead more name of called (values ++ found ∷ []) (disjunction_tree next)
-            around)
-            before rest
-            (rw (append_assoc values (found ∷ []) (disjunction_tree next ∷ more_arguments_tree more))
-            (rw (append_assoc (disjunction_tokens next) (more_arguments_tokens more) (close ∷ [])) at
-            walk))),
-      )
+  more-arguments-lead end_arguments name of called values found around = λ before rest walk. took walk
+  more-arguments-lead (argument next more) name of called values found around = λ before rest walk.
+      let known : List Expr = values ++ found ∷ [] in
+      let next-tokens : List Token = disjunction_tokens next in
+      let regrouped : (next-tokens ++ more_arguments_tokens more) ++ close ∷ []
+      ≡ next-tokens ++ (more_arguments_tokens more ++ close ∷ []) =
+      append_assoc next-tokens (more_arguments_tokens more) (close ∷ []) in
+      took (rw regrouped
+      (followed-by program (more_arguments_tokens more ++ close ∷ []) next
+      (call_argument name of called known around)
+      (call name of called (known ++ disjunction_tree next ∷ more_arguments_tree more) around)
+      (disjunction-leads program next (call_argument name of called known around) tt)
+      (more-arguments-lead more name of called known (disjunction_tree next) around)
+      before rest
+      (rw (append_assoc values (found ∷ []) (disjunction_tree next ∷ more_arguments_tree more))
+      (rw regrouped at walk))))
 
   arguments-lead : (all : Arguments) (name : List ℕ) (of : Kind) (called : List ℕ)
-      (around : AroundStatement) → Leads program (arguments_tokens all ++ close ∷ [])
-      (first_argument name of called around) (call name of called (arguments_tree all) around)
-  arguments-lead no_arguments name of called around = λ before rest walk. (refl, walk)
+      (around : AroundStatement) →
+      Leads program (arguments_tokens all ++ close ∷ []) (first_argument name of called around)
+      (call name of called (arguments_tree all) around)
+  arguments-lead no_arguments name of called around = λ before rest walk. took walk
   arguments-lead (arguments first more) name of called around = λ before rest walk.
+      let within : AroundExpr = call_argument name of called [] around in
+      let first-tokens : List Token = disjunction_tokens first in
+      let regrouped : (first-tokens ++ more_arguments_tokens more) ++ close ∷ []
+      ≡ first-tokens ++ (more_arguments_tokens more ++ close ∷ []) =
+      append_assoc first-tokens (more_arguments_tokens more) (close ∷ []) in
       argument-goes name of called around before
-      (goes before ((disjunction_tokens first ++ more_arguments_tokens more) ++ close ∷ [])
-      rest)
-      (rw (append_assoc (disjunction_tokens first) (more_arguments_tokens more) (close ∷ []))
-      (join program (disjunction_tokens first) (more_arguments_tokens more ++ close ∷ []) _
-      (behind (disjunction_tree first) (call_argument name of called [] around))
-      _
-      (disjunction-leads program first (call_argument name of called [] around) tt)
+      (goes before ((first-tokens ++ more_arguments_tokens more) ++ close ∷ []) rest)
+      (rw regrouped
+      (followed-by program (more_arguments_tokens more ++ close ∷ []) first within
+      (call name of called (disjunction_tree first ∷ more_arguments_tree more) around)
+      (disjunction-leads program first within tt)
       (more-arguments-lead more name of called [] (disjunction_tree first) around)
-      before rest (rw (append_assoc (disjunction_tokens first) (more_arguments_tokens more)
-      (close ∷ [])) at walk)))
+      before rest (rw regrouped at walk)))
 
-  pub along : (from : Coming) (before : ℕ) (slots others : List Slot) → slots ≡ others →
-      Walk others from before program → Walk slots from before program
-  along from before slots others same walk =
-      let P : List Slot → Type 0 = λ it. Walk it from before program in subst P (sym same) walk
+  -- a sentence without blocks, behind its first token
+  item-passes : (tokens : List Token) (from to : Coming) → Closes program tokens from to →
+      Passes program (going_on 0 tokens) from 0 to 0
+  item-passes tokens from to closes = passes-on program tokens from to 0 (closes 0)
 
-  -- the tokens of an item behind its first
-  pub item-goes : (tokens : List Token) (from to : Coming) (rest : List Slot) →
-      Closes program tokens from to → Walk rest to 0 program →
-      Walk (going_on 0 tokens ++ rest) from 0 program
-  item-goes tokens from to rest closes walk =
-      along from 0 (going_on 0 tokens ++ rest) (goes 0 tokens rest) (goes-is tokens 0 rest)
-      (closes 0 rest walk)
-
-  -- the sentences without blocks
-  let-lead : (name : List ℕ) (of : Kind) (tokens : List Token) (to : Coming) (rest : List Slot)
-      (known : List Statement) (block : AroundBlock) → Closes program (tokens ++ semicolon ∷ [])
-      (value name of (in_block known block)) to → Walk rest to 0 program →
-      Walk (let_slots name of tokens ++ rest) (statements known block) 0 program
-  let-lead name of tokens to rest known block closes walk = (
-    refl,
-    (
-      refl,
-      item-goes (colon ∷ kind_token of ∷ assigns ∷ (tokens ++ semicolon ∷ []))
-          (fixed mark.Colon (coming.let_kind name (in_block known block))) to rest
-          (λ before rest walk. (refl, kind-step of _ _ _ (refl, (refl, closes before rest walk))))
-          walk,
-    ),
-  )
-
-  pub let_value-leads : (name : List ℕ) (of : Kind) (whole : Disjunction) (rest : List Slot)
+  let-passes : (name : List ℕ) (of : Kind) (tokens : List Token) (to : Coming)
       (known : List Statement) (block : AroundBlock) →
-      Walk rest (done (does.Let name of (disjunction_tree whole)) (in_block known block)) 0
-      program → Walk (let_slots name of (disjunction_tokens whole) ++ rest)
-      (statements known block) 0 program
-  let_value-leads name of whole rest known block walk =
-      let-lead name of (disjunction_tokens whole) _ rest known block
+      Closes program (tokens ++ semicolon ∷ []) (value name of (in_block known block)) to →
+      Passes program (let_slots name of tokens) (statements known block) 0 to 0
+  let-passes name of tokens to known block closes rest walk =
+      took (took (item-passes (colon ∷ kind_token of ∷ assigns ∷ (tokens ++ semicolon ∷ []))
+      (fixed mark.Colon (coming.let_kind name (in_block known block))) to
+      (λ before rest walk. took (kind-step of _ _ _ (took (took (closes before rest walk)))))
+      rest walk))
+
+  pub let_value-passes : (name : List ℕ) (of : Kind) (whole : Disjunction)
+      (known : List Statement) (block : AroundBlock) →
+      Passes program (let_slots name of (disjunction_tokens whole)) (statements known block) 0
+      (done (does.Let name of (disjunction_tree whole)) (in_block known block)) 0
+  let_value-passes name of whole known block =
+      let within : AroundExpr = let_value name of (in_block known block) in
+      let to : Coming = done (does.Let name of (disjunction_tree whole)) (in_block known block) in
+      let-passes name of (disjunction_tokens whole) to known block
       (λ before rest walk. value-goes name of (in_block known block) before
       (goes before (disjunction_tokens whole ++ semicolon ∷ []) rest)
-      (closing (semicolon ∷ []) whole (let_value name of (in_block known block)) _
-      (disjunction-leads program whole (let_value name of (in_block known block)) tt)
-      (λ before rest walk. (refl, walk)) before rest walk)) walk
+      (closing (semicolon ∷ []) whole within to (disjunction-leads program whole within tt)
+      (λ before rest walk. took walk) before rest walk))
 
-  pub let_call-leads : (name : List ℕ) (of : Kind) (called : List ℕ) (values : Arguments)
-      (rest : List Slot) (known : List Statement) (block : AroundBlock) →
-      Walk rest (done (does.LetCall name of called (arguments_tree values)) (in_block known block))
-      0 program →
-      Walk (let_slots name of (token.Name called ∷ open_ ∷ (arguments_tokens values ++ close ∷ []))
-      ++ rest) (statements known block) 0 program
-  let_call-leads name of called values rest known block walk =
-      let-lead name of (token.Name called ∷ open_ ∷ (arguments_tokens values ++ close ∷ [])) _ rest
-      known block
-      (λ before rest walk. (
-        refl,
-        (
-          refl,
-          join-closing (arguments_tokens values ++ close ∷ []) (semicolon ∷ []) _
-              (call name of called (arguments_tree values) (in_block known block)) _
-              (arguments-lead values name of called (in_block known block))
-              (λ before rest walk. (refl, walk)) before rest walk,
-        ),
-      )) walk
-
-  pub assign-leads : (name : List ℕ) (whole : Disjunction) (rest : List Slot)
+  pub let_call-passes : (name : List ℕ) (of : Kind) (called : List ℕ) (values : Arguments)
       (known : List Statement) (block : AroundBlock) →
-      Walk rest (done (does.Assign name (disjunction_tree whole)) (in_block known block)) 0
-      program → Walk (item (token.Name name)
-      (assigns ∷ (disjunction_tokens whole ++ semicolon ∷ [])) ++ rest)
-      (statements known block) 0 program
-  assign-leads name whole rest known block walk = (
-    refl,
-    item-goes (assigns ∷ (disjunction_tokens whole ++ semicolon ∷ []))
-        (fixed mark.Assign (expression (assigned name (in_block known block))))
-        (done (does.Assign name (disjunction_tree whole)) (in_block known block)) rest
-        (λ before rest walk. (
-          refl,
-          closing (semicolon ∷ []) whole (assigned name (in_block known block)) _
-              (disjunction-leads program whole (assigned name (in_block known block)) tt)
-              (λ before rest walk. (refl, walk)) before rest walk,
-        )) walk,
-  )
+      Passes program
+      (let_slots name of (token.Name called ∷ open_ ∷ (arguments_tokens values ++ close ∷ [])))
+      (statements known block) 0
+      (done (does.LetCall name of called (arguments_tree values)) (in_block known block)) 0
+  let_call-passes name of called values known block =
+      let around : AroundStatement = in_block known block in
+      let to : Coming = done (does.LetCall name of called (arguments_tree values)) around in
+      let-passes name of (token.Name called ∷ open_ ∷ (arguments_tokens values ++ close ∷ [])) to
+      known block
+      (λ before rest walk. took (took (join-closing (arguments_tokens values ++ close ∷ [])
+      (semicolon ∷ []) (first_argument name of called around)
+      (call name of called (arguments_tree values) around) to
+      (arguments-lead values name of called around)
+      (λ before rest walk. took walk) before rest walk)))
 
-  pub resp-leads : (whole : Disjunction) (rest : List Slot) (known : List Statement)
-      (block : AroundBlock) → Walk rest (done (does.Resp (disjunction_tree whole))
-      (in_block known block)) 0 program →
-      Walk (item (token.Word word.Resp)
-      (open_ ∷ (disjunction_tokens whole ++ close ∷ semicolon ∷ [])) ++ rest)
-      (statements known block) 0 program
-  resp-leads whole rest known block walk = (
-    refl,
-    item-goes (open_ ∷ (disjunction_tokens whole ++ close ∷ semicolon ∷ []))
-        (fixed mark.Open (expression (answered (in_block known block))))
-        (done (does.Resp (disjunction_tree whole)) (in_block known block)) rest
-        (λ before rest walk. (
-          refl,
-          closing (close ∷ semicolon ∷ []) whole (answered (in_block known block)) _
-              (disjunction-leads program whole (answered (in_block known block)) tt)
-              (λ before rest walk. (refl, (refl, walk))) before rest walk,
-        )) walk,
-  )
+  pub assign-passes : (name : List ℕ) (whole : Disjunction) (known : List Statement)
+      (block : AroundBlock) →
+      Passes program (item (token.Name name) (assigns ∷ (disjunction_tokens whole ++ semicolon ∷ [])))
+      (statements known block) 0
+      (done (does.Assign name (disjunction_tree whole)) (in_block known block)) 0
+  assign-passes name whole known block rest walk =
+      let within : AroundExpr = assigned name (in_block known block) in
+      let to : Coming = done (does.Assign name (disjunction_tree whole)) (in_block known block) in
+      took (item-passes (assigns ∷ (disjunction_tokens whole ++ semicolon ∷ []))
+      (fixed mark.Assign (expression within)) to
+      (λ before rest walk. took (closing (semicolon ∷ []) whole within to
+      (disjunction-leads program whole within tt)
+      (λ before rest walk. took walk) before rest walk)) rest walk)
 
-  pub put-leads : (name : List ℕ) (rest : List Slot) (known : List Statement)
-      (block : AroundBlock) → Walk rest (done (does.Put name) (in_block known block)) 0 program →
-      Walk (item (token.Word word.Put) (open_ ∷ token.Name name ∷ close ∷ semicolon ∷ []) ++ rest)
-      (statements known block) 0 program
-  put-leads name rest known block walk = (
-    refl,
-    item-goes (open_ ∷ token.Name name ∷ close ∷ semicolon ∷ [])
-        (fixed mark.Open (coming.put_name (in_block known block)))
-        (done (does.Put name) (in_block known block)) rest
-        (λ before rest walk. (refl, (refl, (refl, (refl, walk))))) walk,
-  )
+  pub resp-passes : (whole : Disjunction) (known : List Statement) (block : AroundBlock) →
+      Passes program
+      (item (token.Word word.Resp) (open_ ∷ (disjunction_tokens whole ++ close ∷ semicolon ∷ [])))
+      (statements known block) 0 (done (does.Resp (disjunction_tree whole)) (in_block known block)) 0
+  resp-passes whole known block rest walk =
+      let within : AroundExpr = answered (in_block known block) in
+      let to : Coming = done (does.Resp (disjunction_tree whole)) (in_block known block) in
+      took (item-passes (open_ ∷ (disjunction_tokens whole ++ close ∷ semicolon ∷ []))
+      (fixed mark.Open (expression within)) to
+      (λ before rest walk. took (closing (close ∷ semicolon ∷ []) whole within to
+      (disjunction-leads program whole within tt)
+      (λ before rest walk. took (took walk)) before rest walk)) rest walk)
 
-  pub del-leads : (table key : Disjunction) (rest : List Slot) (known : List Statement)
-      (block : AroundBlock) → Walk rest
+  pub put-passes : (name : List ℕ) (known : List Statement) (block : AroundBlock) →
+      Passes program
+      (item (token.Word word.Put) (open_ ∷ token.Name name ∷ close ∷ semicolon ∷ []))
+      (statements known block) 0 (done (does.Put name) (in_block known block)) 0
+  put-passes name known block rest walk =
+      took (item-passes (open_ ∷ token.Name name ∷ close ∷ semicolon ∷ [])
+      (fixed mark.Open (coming.put_name (in_block known block)))
+      (done (does.Put name) (in_block known block))
+      (λ before rest walk. took (took (took (took walk)))) rest walk)
+
+  -- two expressions with a comma between them, and the end of the item
+  two-closing : (tokens : List Token) (first second : Disjunction) (one two : AroundExpr)
+      (to : Coming) →
+      Leads program (comma ∷ []) (behind (disjunction_tree first) one) (expression two) →
+      Leads program (disjunction_tokens first) (expression one) (behind (disjunction_tree first) one) →
+      Leads program (disjunction_tokens second) (expression two)
+      (behind (disjunction_tree second) two) →
+      Closes program tokens (behind (disjunction_tree second) two) to →
+      Closes program (disjunction_tokens first ++ comma ∷ (disjunction_tokens second ++ tokens))
+      (expression one) to
+  two-closing tokens first second one two to comma-leads first-leads second-leads closes =
+      closing (comma ∷ (disjunction_tokens second ++ tokens)) first one to first-leads
+      (join-closing (comma ∷ []) (disjunction_tokens second ++ tokens)
+      (behind (disjunction_tree first) one) (expression two) to comma-leads
+      (closing tokens second two to second-leads closes))
+
+  pub del-passes : (table key : Disjunction) (known : List Statement) (block : AroundBlock) →
+      Passes program
+      (item (token.Word word.Del) (open_ ∷ (disjunction_tokens table
+      ++ comma ∷ (disjunction_tokens key ++ close ∷ semicolon ∷ []))))
+      (statements known block) 0
       (done (does.Del (disjunction_tree table) (disjunction_tree key)) (in_block known block)) 0
-      program → Walk (item (token.Word word.Del)
-      (open_ ∷ (disjunction_tokens table
-      ++ comma ∷ (disjunction_tokens key ++ close ∷ semicolon ∷ []))) ++ rest)
-      (statements known block) 0 program
-  del-leads table key rest known block walk = (
-    refl,
-    item-goes (open_ ∷ (disjunction_tokens table
-        ++ comma ∷ (disjunction_tokens key ++ close ∷ semicolon ∷ [])))
-        (fixed mark.Open (expression (del_table (in_block known block))))
-        (done (does.Del (disjunction_tree table) (disjunction_tree key)) (in_block known block))
-        rest
-        (λ before rest walk. (
-          refl,
-          closing (comma ∷ (disjunction_tokens key ++ close ∷ semicolon ∷ [])) table
-              (del_table (in_block known block)) _
-              (disjunction-leads program table (del_table (in_block known block)) tt)
-              (λ before rest walk. (
-                refl,
-                closing (close ∷ semicolon ∷ []) key
-                    (del_key (disjunction_tree table) (in_block known block)) _
-                    (disjunction-leads program key
-                    (del_key (disjunction_tree table) (in_block known block)) tt)
-                    (λ before rest walk. (refl, (refl, walk))) before rest walk,
-              )) before rest walk,
-        )) walk,
-  )
+  del-passes table key known block rest walk =
+      let around : AroundStatement = in_block known block in
+      let to : Coming = done (does.Del (disjunction_tree table) (disjunction_tree key)) around in
+      took (item-passes
+      (open_ ∷ (disjunction_tokens table ++ comma ∷ (disjunction_tokens key ++ close ∷ semicolon ∷ [])))
+      (fixed mark.Open (expression (del_table around))) to
+      (λ before rest walk. took (two-closing (close ∷ semicolon ∷ []) table key (del_table around)
+      (del_key (disjunction_tree table) around) to (λ before rest walk. took walk)
+      (disjunction-leads program table (del_table around) tt)
+      (disjunction-leads program key (del_key (disjunction_tree table) around) tt)
+      (λ before rest walk. took (took walk)) before rest walk)) rest walk)
 
   written : (writing : Writing) (name : List ℕ) (place whole : Disjunction)
-      (around : AroundStatement) → Closes program
-      (open_ ∷ token.Name name ∷ comma
-      ∷ (disjunction_tokens place ++ comma ∷ (disjunction_tokens whole ++ close ∷ semicolon ∷ [])))
+      (around : AroundStatement) →
+      Closes program (open_ ∷ token.Name name ∷ comma ∷ (disjunction_tokens place
+      ++ comma ∷ (disjunction_tokens whole ++ close ∷ semicolon ∷ [])))
       (fixed mark.Open (written_name writing around))
       (done (write_tree writing name (disjunction_tree place) (disjunction_tree whole)) around)
-  written writing name place whole around before rest walk = (
-    refl,
-    (
-      refl,
-      (
-        refl,
-        closing (comma ∷ (disjunction_tokens whole ++ close ∷ semicolon ∷ [])) place
-            (write_place writing name around) _
-            (disjunction-leads program place (write_place writing name around) tt)
-            (λ before rest walk. (
-              refl,
-              closing (close ∷ semicolon ∷ []) whole
-                  (write_value writing name (disjunction_tree place) around) _
-                  (disjunction-leads program whole
-                  (write_value writing name (disjunction_tree place) around) tt)
-                  (λ before rest walk. (refl, (refl, walk))) before rest walk,
-            )) before rest walk,
-      ),
-    ),
-  )
+  written writing name place whole around before rest walk =
+      let one : AroundExpr = write_place writing name around in
+      let two : AroundExpr = write_value writing name (disjunction_tree place) around in
+      took (took (took (two-closing (close ∷ semicolon ∷ []) place whole one two
+      (done (write_tree writing name (disjunction_tree place) (disjunction_tree whole)) around)
+      (λ before rest walk. took walk)
+      (disjunction-leads program place one tt) (disjunction-leads program whole two tt)
+      (λ before rest walk. took (took walk)) before rest walk)))
 
-  pub write-leads : (writing : Writing) (name : List ℕ) (place whole : Disjunction)
-      (rest : List Slot) (known : List Statement) (block : AroundBlock) →
-      Walk rest (done (write_tree writing name (disjunction_tree place) (disjunction_tree whole))
-      (in_block known block)) 0 program →
-      Walk (item (token.Word (writing_word writing))
-      (open_ ∷ token.Name name ∷ comma
-      ∷ (disjunction_tokens place ++ comma ∷ (disjunction_tokens whole ++ close ∷ semicolon ∷ [])))
-      ++ rest) (statements known block) 0 program
-  write-leads set name place whole rest known block walk = (
-    refl,
-    item-goes (open_ ∷ token.Name name ∷ comma
-        ∷ (disjunction_tokens place ++ comma
-        ∷ (disjunction_tokens whole ++ close ∷ semicolon ∷ [])))
-        (fixed mark.Open (written_name set (in_block known block)))
-        (done (write_tree set name (disjunction_tree place) (disjunction_tree whole))
-        (in_block known block)) rest
-        (written set name place whole (in_block known block)) walk,
-  )
-  write-leads set8 name place whole rest known block walk = (
-    refl,
-    item-goes (open_ ∷ token.Name name ∷ comma
-        ∷ (disjunction_tokens place ++ comma
-        ∷ (disjunction_tokens whole ++ close ∷ semicolon ∷ [])))
-        (fixed mark.Open (written_name set8 (in_block known block)))
-        (done (write_tree set8 name (disjunction_tree place) (disjunction_tree whole))
-        (in_block known block)) rest
-        (written set8 name place whole (in_block known block)) walk,
-  )
-  write-leads copy name place whole rest known block walk = (
-    refl,
-    item-goes (open_ ∷ token.Name name ∷ comma
-        ∷ (disjunction_tokens place ++ comma
-        ∷ (disjunction_tokens whole ++ close ∷ semicolon ∷ [])))
-        (fixed mark.Open (written_name copy (in_block known block)))
-        (done (write_tree copy name (disjunction_tree place) (disjunction_tree whole))
-        (in_block known block)) rest
-        (written copy name place whole (in_block known block)) walk,
-  )
+  writing-starts : (writing : Writing) (known : List Statement) (block : AroundBlock)
+      (slots : List Slot) →
+      Walk slots (fixed mark.Open (written_name writing (in_block known block))) 0 program →
+      Walk (slot (token.Word (writing_word writing)) begins ∷ slots) (statements known block) 0 program
+  writing-starts set known block slots walk = took walk
+  writing-starts set8 known block slots walk = took walk
+  writing-starts copy known block slots walk = took walk
+
+  pub write-passes : (writing : Writing) (name : List ℕ) (place whole : Disjunction)
+      (known : List Statement) (block : AroundBlock) →
+      Passes program
+      (item (token.Word (writing_word writing)) (open_ ∷ token.Name name ∷ comma
+      ∷ (disjunction_tokens place ++ comma ∷ (disjunction_tokens whole ++ close ∷ semicolon ∷ []))))
+      (statements known block) 0
+      (done (write_tree writing name (disjunction_tree place) (disjunction_tree whole))
+      (in_block known block)) 0
+  write-passes writing name place whole known block rest walk =
+      let around : AroundStatement = in_block known block in
+      let tokens : List Token = open_ ∷ token.Name name ∷ comma ∷ (disjunction_tokens place
+      ++ comma ∷ (disjunction_tokens whole ++ close ∷ semicolon ∷ [])) in
+      writing-starts writing known block (going_on 0 tokens ++ rest)
+      (item-passes tokens (fixed mark.Open (written_name writing around))
+      (done (write_tree writing name (disjunction_tree place) (disjunction_tree whole)) around)
+      (written writing name place whole around) rest walk)
