@@ -11,7 +11,6 @@ use Rattle.ext_mean.specs.declared.tree.Program.{Program}
 use Rattle.ext_mean.specs.declared.run.Run.{Run}
 use Rattle.ext_mean.specs.declared.run.Run.TheVariants.{Done, Trapped, Wants, Spent}
 use Rattle.sp_base.specs.declared.outcomes.Outcome.{Outcome}
-use Rattle.ext_mean.specs.Lookup.{lookup_program}
 use Rattle.ext_mean.specs.Meaning.{mean}
 use Rattle.ext_mean.proofs.LookupProved.{lookup-means}
 use Rattle.ext_mean.specs.Outcomes.{wanted_by, outcome_of}

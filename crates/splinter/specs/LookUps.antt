@@ -1,5 +1,5 @@
 -- The extension of a script, as its two numbers.
-use Rattle.std.specs.Prelude.{◌≡◌, ℕ, List}
+use Rattle.std.specs.Prelude.{ℕ, List}
 use Rattle.ext_mean.specs.declared.tree.Program.{Program}
 use Rattle.ext_mean.specs.declared.run.Run.{Run}
 use Rattle.ext_mean.specs.Lookup.{lookup_ended, lookup_program, lookup_text, lookup_work}

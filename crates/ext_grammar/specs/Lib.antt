@@ -1,0 +1,3 @@
+pub mod Agreement
+pub mod Coming
+pub mod Reading

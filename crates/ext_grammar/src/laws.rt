@@ -1,0 +1,17 @@
+ghost use Rattle.ext_grammar.specs.Agreement.{ProgramsAreAccepted, AcceptedArePrograms, FaultsAreFirst};
+
+/// The tokens of a program within the bounds are accepted, with its tree and the lines of its items.
+pub fn programs_are_accepted()
+    ensures { ProgramsAreAccepted }
+{}
+
+/// Only the tokens of a program within the bounds are accepted, with its tree and the lines of its
+/// items.
+pub fn accepted_are_programs()
+    ensures { AcceptedArePrograms }
+{}
+
+/// The fault that is answered of other tokens is the first that they have.
+pub fn faults_are_first()
+    ensures { FaultsAreFirst }
+{}

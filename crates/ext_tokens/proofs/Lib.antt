@@ -1,0 +1,11 @@
+pub mod Fronts
+pub mod Spellings
+pub mod Items
+pub mod Begins
+pub mod Gaps
+pub mod Slices
+pub mod Lexing
+pub mod Skipped
+pub mod Readings
+pub mod Progress
+pub mod ReadingsAreOne
