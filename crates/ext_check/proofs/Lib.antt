@@ -2,3 +2,4 @@ pub mod BorrowCounts
 pub mod FaultLines
 pub mod ItemLines
 pub mod TypeCounts
+pub mod Verdicts

@@ -11,6 +11,8 @@ use Rattle.ext_mean.specs.ProgramItems.{program_items}
 use Rattle.ext_mean.specs.SyntaxFaults.{SyntaxFault}
 use Rattle.ext_mean.specs.Text.{Spells, SpellsAt}
 use Rattle.ext_mean.specs.Typing.{IsTyped, type_fault}
+use Rattle.ext_parse.specs.declared.fault.ParseFault.{ParseFault}
+use Rattle.ext_parse.specs.declared.fault.ParseFault.TheVariants as parse
 use Rattle.ext_check.specs.declared.fault.CheckFault.{CheckFault}
 use Rattle.ext_check.specs.declared.fault.CheckFault.TheVariants as fault
 
@@ -48,3 +50,8 @@ Explains text fault.Memory = Unit {0}
 abbrev pub Judges : Program → List ℕ → CheckFault → Type 0
 Judges program lines (fault.Refused line which) = IsFaulty program lines line which
 Judges program lines fault.Memory = Unit {0}
+
+-- what the parser's fault is here
+abbrev pub unparsed : ParseFault → CheckFault
+unparsed (parse.Syntax line which) = fault.Refused line (refusal.Syntax which)
+unparsed parse.Memory = fault.Memory

@@ -1,8 +1,10 @@
 ghost use Rattle.std.specs.Prelude.{◌≡◌, ◌<◌, IfOk, IfErr, OnOk, MatchResult, None, Some, length, slice_get};
 ghost use Rattle.ext_mean.specs.declared.tree.Program.{Program};
-ghost use Rattle.ext_mean.specs.Ownership.{IsOwned};
-ghost use Rattle.ext_mean.specs.Typing.{IsTyped};
-ghost use Rattle.ext_check.specs.Checking.{Explains, HaveLines, IsAccepted, IsRefused, Judges};
+ghost use Rattle.ext_mean.specs.Ownership.{IsOwned, borrow_fault};
+ghost use Rattle.ext_mean.specs.Typing.{IsTyped, type_fault};
+ghost use Rattle.ext_borrow.specs.Refusals as borrows;
+ghost use Rattle.ext_types.specs.Refusals as types;
+ghost use Rattle.ext_check.specs.Checking.{Explains, HaveLines, IsAccepted, Judges, unparsed};
 
 use crate::fault::CheckFault;
 use ext_borrow::{BorrowRefusal, check_borrows};
@@ -22,16 +24,34 @@ pub fn check_text(alloc: Global, text: &[u8]) -> Result<Program, CheckFault>
     ensures refused { IfErr result (λ e. Explains text.now e) }
 {
     match parse(alloc, text) {
-        Ok(parsed) => {
-            judge(alloc, &parsed)?;
-            Ok(parsed.program)
-        }
-        Err(ParseFault::Syntax { line, code }) => Err(CheckFault::Refused {
+        Ok(parsed) => judged(alloc, parsed),
+        Err(fault) => Err(unparsed(fault)),
+    }
+}
+
+/// Why a text that spells no program is refused.
+fn unparsed(fault: ParseFault) -> CheckFault
+    ensures { result ≡ unparsed fault }
+{
+    match fault {
+        ParseFault::Syntax { line, code } => CheckFault::Refused {
             line,
             code: Refusal::Syntax(code),
-        }),
-        Err(ParseFault::Memory) => Err(CheckFault::Memory),
+        },
+        ParseFault::Memory => CheckFault::Memory,
     }
+}
+
+/// A program, where it passes both checks.
+fn judged(alloc: Global, parsed: Parsed) -> Result<Program, CheckFault>
+    requires { HaveLines parsed.program parsed.lines.items }
+    ensures program { IfOk result (λ program. program ≡ parsed.program) }
+    ensures typed { OnOk result (IsTyped parsed.program) }
+    ensures owned { OnOk result (IsOwned parsed.program) }
+    ensures faulty { IfErr result (λ e. Judges parsed.program parsed.lines.items e) }
+{
+    judge(alloc, &parsed)?;
+    Ok(parsed.program)
 }
 
 /// Whether a program passes both checks.
@@ -41,29 +61,50 @@ fn judge(alloc: Global, parsed: &Parsed) -> Result<(), CheckFault>
     ensures owned { OnOk result (IsOwned parsed.now.program) }
     ensures faulty { IfErr result (λ e. Judges parsed.now.program parsed.now.lines.items e) }
 {
-    match check_types(alloc, &parsed.program) {
-        Ok(()) => judge_borrows(alloc, parsed),
-        Err(TypeRefusal::Fault { item, code }) => Err(CheckFault::Refused {
-            line: parsed.lines[item as usize],
-            code: Refusal::Types(code),
-        }),
-        Err(TypeRefusal::Memory) => Err(CheckFault::Memory),
+    if let Err(refusal) = check_types(alloc, &parsed.program) {
+        return Err(untyped(parsed, refusal));
+    }
+    match check_borrows(alloc, &parsed.program) {
+        Ok(()) => Ok(()),
+        Err(refusal) => Err(unowned(parsed, refusal)),
     }
 }
 
-/// Whether a typed program keeps the rules of ownership.
-fn judge_borrows(alloc: Global, parsed: &Parsed) -> Result<(), CheckFault>
+/// Why a program that is not typed is refused.
+fn untyped(parsed: &Parsed, refusal: TypeRefusal) -> CheckFault
+    requires lines { HaveLines parsed.now.program parsed.now.lines.items }
+    requires explains { types.Explains refusal (type_fault parsed.now.program) }
+    ensures { Judges parsed.now.program parsed.now.lines.items result }
+{
+    match refusal {
+        TypeRefusal::Fault { item, code } => CheckFault::Refused {
+            line: line_of(parsed.lines.as_slice(), item),
+            code: Refusal::Types(code),
+        },
+        TypeRefusal::Memory => CheckFault::Memory,
+    }
+}
+
+/// Why a typed program that breaks the rules of ownership is refused.
+fn unowned(parsed: &Parsed, refusal: BorrowRefusal) -> CheckFault
     requires lines { HaveLines parsed.now.program parsed.now.lines.items }
     requires typed { IsTyped parsed.now.program }
-    ensures owned { OnOk result (IsOwned parsed.now.program) }
-    ensures faulty { IfErr result (λ e. Judges parsed.now.program parsed.now.lines.items e) }
+    requires explains { borrows.Explains refusal (borrow_fault parsed.now.program) }
+    ensures { Judges parsed.now.program parsed.now.lines.items result }
 {
-    match check_borrows(alloc, &parsed.program) {
-        Ok(()) => Ok(()),
-        Err(BorrowRefusal::Fault { item, code }) => Err(CheckFault::Refused {
-            line: parsed.lines[item as usize],
+    match refusal {
+        BorrowRefusal::Fault { item, code } => CheckFault::Refused {
+            line: line_of(parsed.lines.as_slice(), item),
             code: Refusal::Borrows(code),
-        }),
-        Err(BorrowRefusal::Memory) => Err(CheckFault::Memory),
+        },
+        BorrowRefusal::Memory => CheckFault::Memory,
     }
+}
+
+/// The line of an item.
+fn line_of(lines: &[u32], item: u32) -> u32
+    requires { item < length lines.now }
+    ensures { slice_get lines.now item ≡ Some result }
+{
+    lines[item as usize]
 }

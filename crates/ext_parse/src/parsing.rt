@@ -1,31 +1,72 @@
-ghost use Rattle.std.specs.Prelude.{◌≡◌, List, ℕ, IfOk, IfErr, MatchResult, Err};
+ghost use Rattle.std.specs.Prelude.{◌≡◌, ◌≤◌, ◌<◌, List, ℕ, IfOk, IfErr, MatchResult, Err, length};
 ghost use Rattle.ext_mean.specs.declared.tree.Program.{Program};
-ghost use Rattle.ext_mean.specs.Text.{SpellsAt};
-ghost use Rattle.ext_mean.specs.SyntaxFaults.{SyntaxFault};
+ghost use Rattle.ext_mean.specs.Text.{EndsLine, SpellsAt, most_text};
+ghost use Rattle.ext_mean.specs.Tokens as spelling;
 ghost use Rattle.ext_parse.specs.Faults.{Explains};
 
 use crate::fault::ParseFault;
-use ext_mean::Program;
+use crate::program::{Parsed, read_program};
+use ext_mean::SyntaxCode;
+use ext_tokens::{ends_line, scan_text};
 use std::alloc::Global;
 
-/// A program with the line of each of its items, counted from 1, in the order of the text.
-#[derive(Drop)]
-pub struct Parsed {
-    pub program: Program,
-    pub lines: Vec<u32>,
-}
+/// The greatest length of a text, in bytes.
+const MOST_TEXT: usize = 16_384;
 
-/// The program that a text spells, or the text's first fault.
+/// The program that a text spells, with the line of each item, or the text's first fault.
 pub fn parse(alloc: Global, text: &[u8]) -> Result<Parsed, ParseFault>
     // What is read is spelled by the text, with its items on these lines.
     ensures found { IfOk result (λ parsed. SpellsAt text.now parsed.program parsed.lines.items) }
     // What the text spells is read, unless memory runs out.
     ensures only { (program : Program) (lines : List ℕ) → SpellsAt text.now program lines →
-        MatchResult result (λ parsed. parsed.program ≡ program) (λ e. e ≡ ParseFault.Memory) }
-    // A fault is the first of the text, with its line and its code.
+        MatchResult result (λ parsed. (parsed.program ≡ program) × (parsed.lines.items ≡ lines))
+        (λ e. e ≡ ParseFault.Memory) }
+    // A fault is the text's first one, with its line and its code.
     ensures fault { IfErr result (λ e. Explains text.now e) }
 {
-    let _unread = text;
-    let _unused = alloc;
-    Err(ParseFault::Memory)
+    if text.len() > MOST_TEXT {
+        return Err(fault(1, SyntaxCode::Long));
+    }
+    if text.is_empty() {
+        return Err(fault(1, SyntaxCode::Expected));
+    }
+    if !ends_line(text) {
+        return Err(fault(newlines(text) + 1, SyntaxCode::Expected));
+    }
+    parse_lines(alloc, text)
+}
+
+/// The same for a text of whole lines.
+fn parse_lines(alloc: Global, text: &[u8]) -> Result<Parsed, ParseFault>
+    requires size { length text.now ≤ most_text }
+    requires lines { EndsLine text.now }
+    ensures found { IfOk result (λ parsed. SpellsAt text.now parsed.program parsed.lines.items) }
+    ensures only { (program : Program) (lines : List ℕ) → SpellsAt text.now program lines →
+        MatchResult result (λ parsed. (parsed.program ≡ program) × (parsed.lines.items ≡ lines))
+        (λ e. e ≡ ParseFault.Memory) }
+    ensures fault { IfErr result (λ e. Explains text.now e) }
+{
+    let scanned = scan_text(alloc, text)?;
+    read_program(alloc, scanned.tokens.as_slice(), scanned.end)
+}
+
+fn fault(line: u32, code: SyntaxCode) -> ParseFault
+    ensures { result ≡ ParseFault.Syntax line code }
+{
+    ParseFault::Syntax { line, code }
+}
+
+/// The newlines of a text.
+fn newlines(text: &[u8]) -> u32
+    requires { length text.now ≤ 16384 }
+    ensures count { result ≡ spelling.newlines text.now }
+    ensures few { result ≤ length text.now }
+{
+    let mut count = 0;
+    for byte in text {
+        if *byte == b'\n' {
+            count += 1;
+        }
+    }
+    count
 }

@@ -1,0 +1,4 @@
+pub mod Lists
+pub mod OnlyProved
+pub mod ParseProved
+pub mod Readings
