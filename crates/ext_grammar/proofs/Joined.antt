@@ -47,7 +47,8 @@ pub ahead-as-both : (next as-this : Token) (first second tokens : List Token)
     (More : List Token → Type 0) → next ≡ as-this → Reads first (Reads second More) tokens →
     Reads (as-this ∷ (first ++ second)) More (next ∷ tokens)
 ahead-as-both next as-this first second tokens More is reads =
-    ahead-as next as-this (first ++ second) tokens More is (read-both first second tokens More reads)
+    ahead-as next as-this (first ++ second) tokens More is
+    (read-both first second tokens More reads)
 
 -- the same tokens, written otherwise
 pub read-as : (first others tokens : List Token) (More : List Token → Type 0) → first ≡ others →
@@ -99,15 +100,21 @@ from-kind _ move tokens more = absurd more
 pub product-read : (around : AroundExpr) (tokens : List Token) →
     Continues (unary (side adding around)) tokens →
     (whole : Product) × Reads (product_tokens whole) (AfterExpr around) tokens
-product-read around tokens (operand, (rest, one, (more, reads))) =
-    (product operand more, read-both (unary_tokens operand) (multiply_tokens more) tokens (AfterExpr around) (rest, one, reads))
+product-read around tokens (operand, (rest, one, (more, reads))) = (
+  product operand more,
+  read-both (unary_tokens operand) (multiply_tokens more) tokens
+      (AfterExpr around) (rest, one, reads),
+)
 
 pub sum-read : (around : AroundExpr) (tokens : List Token) →
     Continues (unary (side comparing around)) tokens →
     (whole : Sum) × Reads (sum_tokens whole) (AfterExpr around) tokens
 sum-read around tokens read =
-    let (first, (rest, one, (more, reads))) = product-read (chain adding around) tokens read in
-    (sum first more, read-both (product_tokens first) (add_tokens more) tokens (AfterExpr around) (rest, one, reads))
+    let (first, (rest, one, (more, reads))) = product-read (chain adding around) tokens read in (
+      sum first more,
+      read-both (product_tokens first) (add_tokens more) tokens (AfterExpr around)
+          (rest, one, reads),
+    )
 
 compare : Sum → Further → Comparison
 compare first no_further = only first
@@ -123,21 +130,33 @@ pub comparison-read : (around : AroundExpr) (tokens : List Token) →
     Continues (unary (side conjoining around)) tokens →
     (whole : Comparison) × Reads (comparison_tokens whole) (AfterExpr around) tokens
 comparison-read around tokens read =
-    let (first, (rest, one, (more, reads))) = sum-read (chain comparing around) tokens read in
-    (compare first more, read-as (sum_tokens first ++ further_tokens more) (comparison_tokens (compare first more)) tokens
-    (AfterExpr around) (compare-is first more)
-    (read-both (sum_tokens first) (further_tokens more) tokens (AfterExpr around) (rest, one, reads)))
+    let (first, (rest, one, (more, reads))) = sum-read (chain comparing around) tokens read in (
+      compare first more,
+      read-as (sum_tokens first ++ further_tokens more)
+          (comparison_tokens (compare first more)) tokens
+          (AfterExpr around) (compare-is first more)
+          (read-both (sum_tokens first) (further_tokens more) tokens (AfterExpr around)
+          (rest, one, reads)),
+    )
 
 pub conjunction-read : (around : AroundExpr) (tokens : List Token) →
     Continues (unary (side disjoining around)) tokens →
     (whole : Conjunction) × Reads (conjunction_tokens whole) (AfterExpr around) tokens
 conjunction-read around tokens read =
-    let (first, (rest, one, (more, reads))) = comparison-read (chain conjoining around) tokens read in
-    (conjunction first more, read-both (comparison_tokens first) (and_tokens more) tokens (AfterExpr around) (rest, one, reads))
+    let (first, (rest, one, (more, reads))) = comparison-read (chain conjoining around) tokens
+    read in (
+      conjunction first more,
+      read-both (comparison_tokens first) (and_tokens more) tokens
+          (AfterExpr around) (rest, one, reads),
+    )
 
 pub whole-read : (around : AroundExpr) (tokens : List Token) →
     Continues (unary (level_operand around)) tokens →
     (whole : Disjunction) × Reads (disjunction_tokens whole) (AfterExpr around) tokens
 whole-read around tokens read =
-    let (first, (rest, one, (more, reads))) = conjunction-read (chain disjoining around) tokens read in
-    (disjunction first more, read-both (conjunction_tokens first) (or_tokens more) tokens (AfterExpr around) (rest, one, reads))
+    let (first, (rest, one, (more, reads))) = conjunction-read (chain disjoining around) tokens
+    read in (
+      disjunction first more,
+      read-both (conjunction_tokens first) (or_tokens more) tokens
+          (AfterExpr around) (rest, one, reads),
+    )
