@@ -44,6 +44,10 @@ valued_tokens (valued whole) = disjunction_tokens whole ++ semicolon ∷ []
 valued_tokens (calling called values) =
     token.Name called ∷ open_ ∷ (arguments_tokens values ++ close ∷ semicolon ∷ [])
 
+abbrev pub let_tokens : List ℕ → Kind → Valued → List Token
+let_tokens name of whole =
+    token.Name name ∷ colon ∷ kind_token of ∷ assigns ∷ valued_tokens whole
+
 -- a block behind its `{`, and the arms of a read behind theirs
 abbrev pub inner_tokens : Braces → List Token
 inner_tokens (open_end all) = statements_tokens all ++ close_block ∷ []
@@ -168,7 +172,7 @@ Continues (view_name around) tokens =
     (name : List ℕ) × Reads (token.Name name ∷ close ∷ []) (AfterExpr around) tokens
 Continues (let_name around) tokens =
     (name : List ℕ) × (of : Kind) × (whole : Valued)
-    × Reads (token.Name name ∷ colon ∷ kind_token of ∷ assigns ∷ valued_tokens whole)
+    × Reads (let_tokens name of whole)
     (AfterStatement around) tokens
 Continues (let_kind name around) tokens =
     (of : Kind) × (whole : Valued)

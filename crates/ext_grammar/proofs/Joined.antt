@@ -1,5 +1,5 @@
 -- Parts of an expression that were read one behind the other are one.
-use Rattle.std.proofs.Common.{◌≡◌, ℕ, Bool, true, false, List, ◌++◌, Option, Some, None, refl, sym, ◌∙◌, ap, append_assoc, append-nil, if◌then◌else◌}
+use Rattle.std.proofs.Common.{◌≡◌, ℕ, Bool, true, false, List, ◌∷◌, ◌++◌, Option, Some, None, refl, sym, ◌∙◌, ap, append_assoc, append-nil, if◌then◌else◌}
 use Rattle.ext_mean.specs.declared.statement.Kind.{Kind}
 use Rattle.ext_mean.specs.declared.statement.Kind.TheVariants as kind
 use Rattle.ext_mean.specs.declared.token.Mark.{Mark}
@@ -8,7 +8,7 @@ use Rattle.ext_mean.specs.declared.token.Token.{Token}
 use Rattle.ext_mean.specs.declared.token.Token.TheVariants as token
 use Rattle.ext_mean.specs.declared.token.Word.TheVariants as word
 use Rattle.ext_mean.specs.Grammar.{Disjunction, disjunction, Conjunction, conjunction, Comparison, only, compared, Sum, sum, Product, product}
-use Rattle.ext_mean.specs.Wording.{kind_token, disjunction_tokens, conjunction_tokens, comparison_tokens, sum_tokens, product_tokens}
+use Rattle.ext_mean.specs.Wording.{kind_token, disjunction_tokens, or_tokens, conjunction_tokens, and_tokens, comparison_tokens, sum_tokens, add_tokens, product_tokens, multiply_tokens, unary_tokens}
 use Rattle.ext_grammar.specs.Coming.{disjoining, conjoining, comparing, adding, AroundExpr, chain, unary, side, level_operand, Move, is_mark, on_mark, on_some, name_of, kind_of}
 use Rattle.ext_grammar.proofs.Continuing.{Reads, Further, no_further, further, further_tokens, AfterExpr, Continues}
 
@@ -21,6 +21,40 @@ pub joined : (first second : List Token) (all middle rest : List Token) → all 
     middle ≡ second ++ rest → all ≡ (first ++ second) ++ rest
 joined first second all middle rest one two =
     one ∙ ap (λ it. first ++ it) two ∙ sym (append_assoc first second rest)
+
+-- one token more in front, as it stands or as another that it is
+pub ahead : (next : Token) (first tokens : List Token) (More : List Token → Type 0) →
+    Reads first More tokens → Reads (next ∷ first) More (next ∷ tokens)
+ahead next first tokens More (rest, same, more) = (rest, ap (λ it. next ∷ it) same, more)
+
+pub ahead-as : (next as-this : Token) (first tokens : List Token) (More : List Token → Type 0) →
+    next ≡ as-this → Reads first More tokens → Reads (as-this ∷ first) More (next ∷ tokens)
+ahead-as next as-this first tokens More is (rest, same, more) =
+    (rest, ap (λ it. it ∷ tokens) is ∙ ap (λ it. as-this ∷ it) same, more)
+
+-- two lists of tokens that were read one behind the other
+pub read-both : (first second tokens : List Token) (More : List Token → Type 0) →
+    Reads first (Reads second More) tokens → Reads (first ++ second) More tokens
+read-both first second tokens More (rest, one, (last, two, more)) =
+    (last, joined first second tokens rest last one two, more)
+
+pub ahead-both : (next : Token) (first second tokens : List Token) (More : List Token → Type 0) →
+    Reads first (Reads second More) tokens → Reads (next ∷ (first ++ second)) More (next ∷ tokens)
+ahead-both next first second tokens More reads =
+    ahead next (first ++ second) tokens More (read-both first second tokens More reads)
+
+pub ahead-as-both : (next as-this : Token) (first second tokens : List Token)
+    (More : List Token → Type 0) → next ≡ as-this → Reads first (Reads second More) tokens →
+    Reads (as-this ∷ (first ++ second)) More (next ∷ tokens)
+ahead-as-both next as-this first second tokens More is reads =
+    ahead-as next as-this (first ++ second) tokens More is
+    (read-both first second tokens More reads)
+
+-- the same tokens, written otherwise
+pub read-as : (first others tokens : List Token) (More : List Token → Type 0) → first ≡ others →
+    Reads first More tokens → Reads others More tokens
+read-as first others tokens More same (rest, one, more) =
+    (rest, one ∙ ap (λ it. it ++ rest) same, more)
 
 -- a mark, a name and a kind
 pub mark-is : (of : Mark) (next : Token) → is_mark of next ≡ true → next ≡ token.Mark of
@@ -64,25 +98,30 @@ from-kind _ move tokens more = absurd more
 
 -- a chain of each level
 pub product-read : (around : AroundExpr) (tokens : List Token) →
-    Continues (unary (side adding around)) tokens → (whole : Product) × Reads (product_tokens whole)
-    (AfterExpr around) tokens
-product-read around tokens (operand, (rest, one, (more, (last, two, after)))) =
-    (product operand more, (last, joined _ _ tokens rest last one two, after))
+    Continues (unary (side adding around)) tokens →
+    (whole : Product) × Reads (product_tokens whole) (AfterExpr around) tokens
+product-read around tokens (operand, (rest, one, (more, reads))) = (
+  product operand more,
+  read-both (unary_tokens operand) (multiply_tokens more) tokens
+      (AfterExpr around) (rest, one, reads),
+)
 
 pub sum-read : (around : AroundExpr) (tokens : List Token) →
-    Continues (unary (side comparing around)) tokens → (whole : Sum) × Reads (sum_tokens whole)
-    (AfterExpr around) tokens
+    Continues (unary (side comparing around)) tokens →
+    (whole : Sum) × Reads (sum_tokens whole) (AfterExpr around) tokens
 sum-read around tokens read =
-    let (first, (rest, one, (more, (last, two, after)))) = product-read (chain adding around) tokens
-    read in
-    (sum first more, (last, joined _ _ tokens rest last one two, after))
+    let (first, (rest, one, (more, reads))) = product-read (chain adding around) tokens read in (
+      sum first more,
+      read-both (product_tokens first) (add_tokens more) tokens (AfterExpr around)
+          (rest, one, reads),
+    )
 
 compare : Sum → Further → Comparison
 compare first no_further = only first
 compare first (further by second) = compared first by second
 
-compare-is : (first : Sum) (more : Further) → sum_tokens first ++ further_tokens more
-    ≡ comparison_tokens (compare first more)
+compare-is : (first : Sum) (more : Further) →
+    sum_tokens first ++ further_tokens more ≡ comparison_tokens (compare first more)
 unfolding compare
 compare-is first no_further = append-nil (sum_tokens first)
 compare-is first (further by second) = refl
@@ -91,29 +130,33 @@ pub comparison-read : (around : AroundExpr) (tokens : List Token) →
     Continues (unary (side conjoining around)) tokens →
     (whole : Comparison) × Reads (comparison_tokens whole) (AfterExpr around) tokens
 comparison-read around tokens read =
-    let (first, (rest, one, (more, (last, two, after)))) =
-    sum-read (chain comparing around) tokens read in (
+    let (first, (rest, one, (more, reads))) = sum-read (chain comparing around) tokens read in (
       compare first more,
-      (
-        last,
-        joined _ _ tokens rest last one two ∙ ap (λ it. it ++ last)
-            (compare-is first more),
-        after,
-      ),
+      read-as (sum_tokens first ++ further_tokens more)
+          (comparison_tokens (compare first more)) tokens
+          (AfterExpr around) (compare-is first more)
+          (read-both (sum_tokens first) (further_tokens more) tokens (AfterExpr around)
+          (rest, one, reads)),
     )
 
 pub conjunction-read : (around : AroundExpr) (tokens : List Token) →
-    Continues (unary (side disjoining around)) tokens → (whole : Conjunction)
-    × Reads (conjunction_tokens whole) (AfterExpr around) tokens
+    Continues (unary (side disjoining around)) tokens →
+    (whole : Conjunction) × Reads (conjunction_tokens whole) (AfterExpr around) tokens
 conjunction-read around tokens read =
-    let (first, (rest, one, (more, (last, two, after)))) = comparison-read (chain conjoining around)
-    tokens read in
-    (conjunction first more, (last, joined _ _ tokens rest last one two, after))
+    let (first, (rest, one, (more, reads))) = comparison-read (chain conjoining around) tokens
+    read in (
+      conjunction first more,
+      read-both (comparison_tokens first) (and_tokens more) tokens
+          (AfterExpr around) (rest, one, reads),
+    )
 
 pub whole-read : (around : AroundExpr) (tokens : List Token) →
-    Continues (unary (level_operand around)) tokens → (whole : Disjunction)
-    × Reads (disjunction_tokens whole) (AfterExpr around) tokens
+    Continues (unary (level_operand around)) tokens →
+    (whole : Disjunction) × Reads (disjunction_tokens whole) (AfterExpr around) tokens
 whole-read around tokens read =
-    let (first, (rest, one, (more, (last, two, after)))) =
-    conjunction-read (chain disjoining around) tokens read in
-    (disjunction first more, (last, joined _ _ tokens rest last one two, after))
+    let (first, (rest, one, (more, reads))) = conjunction-read (chain disjoining around) tokens
+    read in (
+      disjunction first more,
+      read-both (conjunction_tokens first) (or_tokens more) tokens
+          (AfterExpr around) (rest, one, reads),
+    )

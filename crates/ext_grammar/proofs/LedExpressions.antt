@@ -54,7 +54,8 @@ module _ (program : Program) where
 
   -- an operator leads to its right side
   comparing-leads : (by : Comparing) (found : Expr) (around : AroundExpr) →
-      Leads program (token.Binary (comparing_operator by) ∷ []) (behind found (chain comparing around))
+      Leads program (token.Binary (comparing_operator by) ∷ [])
+      (behind found (chain comparing around))
       (unary (side comparing (right comparing (comparing_operator by) found around)))
   comparing-leads equal found around before rest walk = took walk
   comparing-leads not_equal found around before rest walk = took walk
@@ -141,9 +142,11 @@ module _ (program : Program) where
       (disjunction_tree third)) around
       in
       took (followed-by
-      (comma ∷ (disjunction_tokens second ++ comma ∷ (disjunction_tokens third ++ close ∷ []))) first
+      (comma ∷ (disjunction_tokens second ++ comma ∷ (disjunction_tokens third ++ close ∷ [])))
+      first
       (first_of_three kind around) to one
-      (λ before rest walk. took (followed-by (comma ∷ (disjunction_tokens third ++ close ∷ [])) second
+      (λ before rest walk. took (followed-by (comma ∷ (disjunction_tokens third ++ close ∷ []))
+      second
       (second_of_three kind (disjunction_tree first) around) to two
       (λ before rest walk. took (followed-by (close ∷ []) third
       (third_of_three kind (disjunction_tree first) (disjunction_tree second) around) to three
@@ -160,7 +163,8 @@ module _ (program : Program) where
     primary-leads (truth false) around before rest walk = took walk
     primary-leads (parentheses inner) around before rest walk =
         took (followed-by (close ∷ []) inner (in_parentheses around)
-        (behind (disjunction_tree inner) around) (disjunction-leads inner (in_parentheses around) tt)
+        (behind (disjunction_tree inner) around)
+        (disjunction-leads inner (in_parentheses around) tt)
         (λ before rest walk. took walk) before rest walk)
     primary-leads args around before rest walk = took (took (took walk))
     primary-leads (view name) around before rest walk = took (took (took (took walk)))
@@ -201,7 +205,8 @@ module _ (program : Program) where
         as-unary operand around before rest (primary-leads operand around before rest walk)
     unary-leads (negated operand) around before rest walk =
         took (primary-leads operand (coming.negated around) (before + 1) rest
-        (through-not (primary_tree operand) around (counted (before + 1) (primary_tokens operand)) rest
+        (through-not (primary_tree operand) around (counted (before + 1) (primary_tokens operand))
+        rest
         walk))
 
     pub product-leads : (whole : Product) (around : AroundExpr) → Below 5 around →
@@ -234,7 +239,8 @@ module _ (program : Program) where
     sum-leads (sum first more) around below =
         join program (product_tokens first) (add_tokens more) (unary (side comparing around))
         (behind (product_tree first) (chain adding around)) _
-        (product-leads first (chain adding around) (omega arith, below-more around 4 5 (omega arith) below))
+        (product-leads first (chain adding around)
+        (omega arith, below-more around 4 5 (omega arith) below))
         (add-leads more (product_tree first) around below)
 
     pub add-leads : (more : MoreSum) (found : Expr) (around : AroundExpr) → Below 4 around →
@@ -248,26 +254,32 @@ module _ (program : Program) where
         (adding-leads sign found around)
         (right-side adding refl by found (product_tree next) around (product_tokens next)
         (add_tokens more) (unary (side adding (right adding by found around))) _
-        (product-leads next (right adding by found around) (omega arith, below-more around 4 5 (omega arith) below))
+        (product-leads next (right adding by found around)
+        (omega arith, below-more around 4 5 (omega arith) below))
         (add-leads more (expr.Bin by found (product_tree next)) around below))
 
     pub comparison-leads : (whole : Comparison) (around : AroundExpr) → Below 3 around →
         Leads program (comparison_tokens whole) (unary (side conjoining around))
         (behind (comparison_tree whole) around)
     comparison-leads (only whole) around below = λ before rest walk.
-        sum-leads whole (chain comparing around) (omega arith, below-more around 3 4 (omega arith) below) before rest
-        (skip program comparing around below (sum_tree whole) (counted before (sum_tokens whole)) rest
+        sum-leads whole (chain comparing around)
+        (omega arith, below-more around 3 4 (omega arith) below) before rest
+        (skip program comparing around below (sum_tree whole) (counted before (sum_tokens whole))
+        rest
         walk)
     comparison-leads (compared left sign second) around below =
         let by : BinOp = comparing_operator sign in
         let inner : AroundExpr = right comparing by (sum_tree left) around in
         join program (sum_tokens left) (token.Binary by ∷ sum_tokens second)
         (unary (side conjoining around)) (behind (sum_tree left) (chain comparing around)) _
-        (sum-leads left (chain comparing around) (omega arith, below-more around 3 4 (omega arith) below))
-        (join program (token.Binary by ∷ []) (sum_tokens second) (behind (sum_tree left) (chain comparing around))
+        (sum-leads left (chain comparing around)
+        (omega arith, below-more around 3 4 (omega arith) below))
+        (join program (token.Binary by ∷ []) (sum_tokens second)
+        (behind (sum_tree left) (chain comparing around))
         (unary (side comparing inner)) _
         (comparing-leads sign (sum_tree left) around)
-        (λ before rest walk. sum-leads second inner (omega arith, below-more around 3 4 (omega arith) below) before rest
+        (λ before rest walk. sum-leads second inner
+        (omega arith, below-more around 3 4 (omega arith) below) before rest
         (right-compared program by (sum_tree left) (sum_tree second) around
         (counted before (sum_tokens second)) rest walk)))
 
@@ -277,7 +289,8 @@ module _ (program : Program) where
     conjunction-leads (conjunction first more) around below =
         join program (comparison_tokens first) (and_tokens more) (unary (side disjoining around))
         (behind (comparison_tree first) (chain conjoining around)) _
-        (comparison-leads first (chain conjoining around) (omega arith, below-more around 2 3 (omega arith) below))
+        (comparison-leads first (chain conjoining around)
+        (omega arith, below-more around 2 3 (omega arith) below))
         (and-leads more (comparison_tree first) around below)
 
     pub and-leads : (more : MoreAnd) (found : Expr) (around : AroundExpr) → Below 2 around →
@@ -298,7 +311,8 @@ module _ (program : Program) where
     disjunction-leads (disjunction first more) around below =
         join program (conjunction_tokens first) (or_tokens more) (expression around)
         (behind (conjunction_tree first) (chain disjoining around)) _
-        (conjunction-leads first (chain disjoining around) (omega arith, below-more around 1 2 (omega arith) below))
+        (conjunction-leads first (chain disjoining around)
+        (omega arith, below-more around 1 2 (omega arith) below))
         (or-leads more (conjunction_tree first) around below)
 
     pub or-leads : (more : MoreOr) (found : Expr) (around : AroundExpr) → Below 1 around →

@@ -114,7 +114,8 @@ module _ (program : Program) where
       Leads program (more_arguments_tokens more ++ close ∷ [])
       (behind found (call_argument name of called values around))
       (call name of called (values ++ found ∷ more_arguments_tree more) around)
-  more-arguments-lead end_arguments name of called values found around = λ before rest walk. took walk
+  more-arguments-lead end_arguments name of called values found around =
+      λ before rest walk. took walk
   more-arguments-lead (argument next more) name of called values found around = λ before rest walk.
       let known : List Expr = values ++ found ∷ [] in
       let next-tokens : List Token = disjunction_tokens next in
@@ -198,7 +199,8 @@ module _ (program : Program) where
 
   pub assign-passes : (name : List ℕ) (whole : Disjunction) (known : List Statement)
       (block : AroundBlock) →
-      Passes program (item (token.Name name) (assigns ∷ (disjunction_tokens whole ++ semicolon ∷ [])))
+      Passes program (item (token.Name name)
+      (assigns ∷ (disjunction_tokens whole ++ semicolon ∷ [])))
       (statements known block) 0
       (done (does.Assign name (disjunction_tree whole)) (in_block known block)) 0
   assign-passes name whole known block rest walk =
@@ -213,7 +215,8 @@ module _ (program : Program) where
   pub resp-passes : (whole : Disjunction) (known : List Statement) (block : AroundBlock) →
       Passes program
       (item (token.Word word.Resp) (open_ ∷ (disjunction_tokens whole ++ close ∷ semicolon ∷ [])))
-      (statements known block) 0 (done (does.Resp (disjunction_tree whole)) (in_block known block)) 0
+      (statements known block) 0 (done (does.Resp (disjunction_tree whole)) (in_block known block))
+      0
   resp-passes whole known block rest walk =
       let within : AroundExpr = answered (in_block known block) in
       let to : Coming = done (does.Resp (disjunction_tree whole)) (in_block known block) in
@@ -237,7 +240,8 @@ module _ (program : Program) where
   two-closing : (tokens : List Token) (first second : Disjunction) (one two : AroundExpr)
       (to : Coming) →
       Leads program (comma ∷ []) (behind (disjunction_tree first) one) (expression two) →
-      Leads program (disjunction_tokens first) (expression one) (behind (disjunction_tree first) one) →
+      Leads program (disjunction_tokens first) (expression one)
+      (behind (disjunction_tree first) one) →
       Leads program (disjunction_tokens second) (expression two)
       (behind (disjunction_tree second) two) →
       Closes program tokens (behind (disjunction_tree second) two) to →
@@ -259,7 +263,8 @@ module _ (program : Program) where
       let around : AroundStatement = in_block known block in
       let to : Coming = done (does.Del (disjunction_tree table) (disjunction_tree key)) around in
       took (item-passes
-      (open_ ∷ (disjunction_tokens table ++ comma ∷ (disjunction_tokens key ++ close ∷ semicolon ∷ [])))
+      (open_ ∷ (disjunction_tokens table
+      ++ comma ∷ (disjunction_tokens key ++ close ∷ semicolon ∷ [])))
       (fixed mark.Open (expression (del_table around))) to
       (λ before rest walk. took (two-closing (close ∷ semicolon ∷ []) table key (del_table around)
       (del_key (disjunction_tree table) around) to (λ before rest walk. took walk)
@@ -285,7 +290,8 @@ module _ (program : Program) where
   writing-starts : (writing : Writing) (known : List Statement) (block : AroundBlock)
       (slots : List Slot) →
       Walk slots (fixed mark.Open (written_name writing (in_block known block))) 0 program →
-      Walk (slot (token.Word (writing_word writing)) begins ∷ slots) (statements known block) 0 program
+      Walk (slot (token.Word (writing_word writing)) begins ∷ slots) (statements known block) 0
+      program
   writing-starts set known block slots walk = took walk
   writing-starts set8 known block slots walk = took walk
   writing-starts copy known block slots walk = took walk

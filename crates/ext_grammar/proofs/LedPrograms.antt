@@ -22,7 +22,8 @@ module _ (all : Program) where
   -- the parameters with their `)`, and what stands behind them
   more-parameters-pass : (more : MoreParameters) (known : List Function) (name : List ℕ)
       (params : List Param) (tail : List Slot) (to : Coming) →
-      Passes all tail (fixed mark.Arrow (result_kind known name (params ++ more_parameters_tree more)))
+      Passes all tail (fixed mark.Arrow
+      (result_kind known name (params ++ more_parameters_tree more)))
       0 to 0 →
       Passes all (more_parameters_slots more ++ slot close (inside 0) ∷ tail)
       (behind_parameter known name params) 0 to 0
@@ -37,7 +38,8 @@ module _ (all : Program) where
   parameters-pass : (params : Parameters) (known : List Function) (name : List ℕ)
       (tail : List Slot) (to : Coming) →
       Passes all tail (fixed mark.Arrow (result_kind known name (parameters_tree params))) 0 to 0 →
-      Passes all (parameters_slots params ++ slot close (inside 0) ∷ tail) (first_parameter known name)
+      Passes all (parameters_slots params ++ slot close (inside 0) ∷ tail)
+      (first_parameter known name)
       0 to 0
   parameters-pass no_parameters known name tail to passes = λ rest walk. took (passes rest walk)
   parameters-pass (parameters next of more) known name tail to passes = λ rest walk.
@@ -64,7 +66,8 @@ module _ (all : Program) where
       (functions-lead more (known ++ definition_tree next ∷ [])
       (rw (append_assoc known (definition_tree next ∷ []) (more_functions_tree more)) walk))
 
-pub program-leads : (whole : Whole) → Walk (program_slots whole) (functions []) 0 (program_tree whole)
+pub program-leads : (whole : Whole) → Walk (program_slots whole)
+    (functions []) 0 (program_tree whole)
 program-leads (program first more) =
     definition-passes (program_tree (program first more)) first [] (more_functions_slots more)
     (functions-lead (program_tree (program first more)) more (definition_tree first ∷ []) refl)

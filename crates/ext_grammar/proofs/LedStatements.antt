@@ -54,16 +54,20 @@ module _ (program : Program) where
 
   -- `return`, its expression and the `}`
   return-passes : (whole : Disjunction) (known : List Statement) (around : AroundBlock) →
-      Passes program (return_slots whole ++ slot close_block outside ∷ []) (statements known around) 0
+      Passes program (return_slots whole ++ slot close_block outside ∷ []) (statements known around)
+      0
       (closed (block_of (known ++ does.Return (disjunction_tree whole) ∷ [])) around) 0
   return-passes whole known around =
-      let last : Coming = coming.last_brace (known ++ does.Return (disjunction_tree whole) ∷ []) around in
+      let last : Coming = coming.last_brace (known ++ does.Return (disjunction_tree whole) ∷ [])
+      around in
       let within : AroundExpr = returned known around in
-      passes-both program (return_slots whole) (slot close_block outside ∷ []) (statements known around)
+      passes-both program (return_slots whole) (slot close_block outside ∷ [])
+      (statements known around)
       last (closed (block_of (known ++ does.Return (disjunction_tree whole) ∷ [])) around) 0 0 0
       (λ rest walk. took (passes-on program (disjunction_tokens whole ++ semicolon ∷ [])
       (expression within) last 0
-      (closing program (semicolon ∷ []) whole within last (disjunction-leads program whole within tt)
+      (closing program (semicolon ∷ []) whole within last
+      (disjunction-leads program whole within tt)
       (λ before rest walk. took walk) 0) rest walk))
       (λ rest walk. took walk)
 
@@ -131,7 +135,8 @@ module _ (program : Program) where
 
   -- the operands of a read, and its arms
   looking-passes : (tokens : List Token) (from : Coming) (looking : Looking)
-      (around : AroundStatement) (both : Arms) (count : ℕ) (to : Coming) → count ≡ counted 0 tokens →
+      (around : AroundStatement) (both : Arms) (count : ℕ) (to : Coming) → count
+      ≡ counted 0 tokens →
       Leads program tokens from (fixed mark.OpenBlock (some_word looking around)) →
       Passes program (arms_slots both (counted 0 tokens))
       (fixed mark.OpenBlock (some_word looking around)) (counted 0 tokens) to 0 →
@@ -167,7 +172,8 @@ module _ (program : Program) where
       around))
   multiget-leads table keys width around before rest walk =
       let two : AroundExpr = multiget_keys (disjunction_tree table) around in
-      let three : AroundExpr = multiget_width (disjunction_tree table) (disjunction_tree keys) around in
+      let three : AroundExpr = multiget_width (disjunction_tree table) (disjunction_tree keys)
+      around in
       took (followed-by program
       (comma ∷ (disjunction_tokens keys ++ comma ∷ (disjunction_tokens width ++ close ∷ []))) table
       (multiget_table around) _ (disjunction-leads program table (multiget_table around) tt)
@@ -261,12 +267,14 @@ module _ (program : Program) where
         let within : AroundExpr = while_test (in_block known around) in
         let count : ℕ = counted 0 (disjunction_tokens test) in
         let body : AroundBlock = while_block (disjunction_tree test) (in_block known around) in
-        let to : Coming = statements (known ++ sentence_tree (grammar.while test block) ∷ []) around in
+        let to : Coming = statements (known ++ sentence_tree (grammar.while test block) ∷ [])
+        around in
         let slots : List Slot = braces_slots block (operators (disjunction_tokens test)) in
         took (passes-both program (going_on 0 (disjunction_tokens test)) slots (expression within)
         (behind (disjunction_tree test) within) to 0 count 0
         (test-passes test within (disjunction-leads program test within tt))
-        (λ rest walk. while-goes (disjunction_tree test) (in_block known around) count (slots ++ rest)
+        (λ rest walk. while-goes (disjunction_tree test) (in_block known around) count
+        (slots ++ rest)
         (block-passes test block body to (braces-pass block body count) rest walk))
         rest walk)
     sentence-passes (grammar.get table key both) known around = λ rest walk.
@@ -283,7 +291,8 @@ module _ (program : Program) where
         let within : AroundStatement = in_block known around in
         let looking : Looking = coming.multiget (disjunction_tree table) (disjunction_tree keys)
         (disjunction_tree width) in
-        let tokens : List Token = open_ ∷ (disjunction_tokens table ++ comma ∷ (disjunction_tokens keys
+        let tokens : List Token = open_
+        ∷ (disjunction_tokens table ++ comma ∷ (disjunction_tokens keys
         ++ comma ∷ (disjunction_tokens width ++ close ∷ []))) in
         took (looking-passes tokens (fixed mark.Open (expression (multiget_table within))) looking
         within both (operators (disjunction_tokens table)
@@ -302,7 +311,8 @@ module _ (program : Program) where
         looking_statement looking name (braces_tree block) (braces_tree other) in
         let last : List Slot = braces_slots other before ++ slot close_block (inside before) ∷ [] in
         took (took (took (took (passes-both program (braces_slots block before)
-        (slot (token.Word word.None) (inside before) ∷ slot (token.Mark mark.Arm) (inside before) ∷ last)
+        (slot (token.Word word.None) (inside before) ∷ slot (token.Mark mark.Arm) (inside before)
+        ∷ last)
         (braces first) (closed (braces_tree block) first) (done statement around) before 0 0
         (braces-pass block first before)
         (λ rest walk. took (took (passes-both program (braces_slots other before)

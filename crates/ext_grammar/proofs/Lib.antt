@@ -9,6 +9,8 @@ pub mod BareTokens
 pub mod Continuing
 pub mod Completions
 pub mod Joined
+pub mod StepsOfOperands
+pub mod StepsOfOperators
 pub mod StepsOfExpressions
 pub mod StepsOfStatements
 pub mod Steps

@@ -17,7 +17,8 @@ module _ (program : Program) where
   along from before slots others same walk =
       let P : List Slot → Type 0 = λ it. Walk it from before program in subst P (sym same) walk
 
-  pub passes-both : (first second : List Slot) (from middle to : Coming) (before between after : ℕ) →
+  pub passes-both : (first second : List Slot) (from middle to : Coming)
+      (before between after : ℕ) →
       Passes first from before middle between → Passes second middle between to after →
       Passes (first ++ second) from before to after
   passes-both first second from middle to before between after one two rest walk =
