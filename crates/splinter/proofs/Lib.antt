@@ -14,3 +14,4 @@ pub mod Sources
 pub mod Playing
 pub mod Refusing
 pub mod Lists
+pub mod Checked

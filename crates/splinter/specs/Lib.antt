@@ -10,3 +10,4 @@ pub mod Stepping
 pub mod Draining
 pub mod Running
 pub mod Words
+pub mod Checks

@@ -73,6 +73,7 @@ Runs status.WriteFault input held left after = WritesPrefix input held after
 Runs status.ReadFault input held left after = after ≡ Some held
 Runs status.Memory input held left after = after ≡ Some held
 Runs status.Usage input held left after = ⊥
+Runs status.Refused input held left after = ⊥
 
 -- a text was written whole, under this status, or writing failed and a prefix stands
 pub record WritesWhole (result whole : Status) (held text : List ℕ) (after : Option (List ℕ)) : Type 0 where

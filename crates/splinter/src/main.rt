@@ -1,6 +1,8 @@
-//! `splinter run` plays the script on its input, and writes the answers and the journal.
+//! `splinter run` plays the script on its input, and writes the answers and the journal;
+//! `splinter check` tells whether its input is an extension that may run, or why it is refused.
 #![tactic(auto)]
 
+mod check;
 mod evaluator;
 mod fields;
 mod line;

@@ -67,7 +67,7 @@ fn refuse<K: Sink>(sink: &mut K) -> Status
 }
 
 /// Writes a text, and answers this status where all of it was written.
-fn write<K: Sink>(sink: &mut K, text: &[u8], status: Status) -> Status
+pub fn write<K: Sink>(sink: &mut K, text: &[u8], status: Status) -> Status
     ensures told { IfSome (K.held sink.old) (λ held. WritesText result status held text.now (K.held sink.new)) }
     ensures fault { status ≢ Status.WriteFault → result ≡ Status.WriteFault → FaultCounted (K.faults sink.old) (K.faults sink.new) }
     ensures ends { (result ≡ status) ⊎ (result ≡ Status.WriteFault) }

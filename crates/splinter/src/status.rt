@@ -3,6 +3,8 @@
 pub enum Status {
     /// The input was read to its end, and all was written.
     Ok = 0,
+    /// The extension is refused, which one line tells.
+    Refused = 1,
     /// The words are no command. Nothing was read or written.
     Usage = 2,
     /// The input is no script, which one line tells.

@@ -37,7 +37,7 @@ fn source_of(alloc: Global, input: &[u8], fail: Vec<u32>) -> Result<MemSource, F
     })
 }
 
-/// Runs an input, and compares the status and what is written.
+/// Plays an input, and compares the status and what is written.
 fn expect_run(
     rt: &impl Abort,
     alloc: Global,
@@ -45,7 +45,19 @@ fn expect_run(
     status: Status,
     text: &[u8],
 ) -> Result<(), Fail> {
-    let words = vec![in alloc; String::from_str(alloc, "run")?]?;
+    expect(rt, alloc, "run", input, status, text)
+}
+
+/// Runs a command on an input, and compares the status and what is written.
+fn expect(
+    rt: &impl Abort,
+    alloc: Global,
+    command: &str,
+    input: &[u8],
+    status: Status,
+    text: &[u8],
+) -> Result<(), Fail> {
+    let words = vec![in alloc; String::from_str(alloc, command)?]?;
     let mut source = source_of(alloc, input, Vec::new(alloc))?;
     let mut sink = MemSink::of(alloc, 100_000, Vec::new(alloc))?;
     assert_eq!(rt;
@@ -179,4 +191,66 @@ fn a_failed_write_leaves_a_prefix(rt: HostRuntime) -> Result<(), Fail> {
     assert_eq!(rt; status, Status::WriteFault);
     assert_eq!(rt; sink.held.as_slice(), b"3 put 0\n4 installed ".as_slice());
     Ok(())
+}
+
+#[test]
+fn an_extension_is_accepted_or_has_the_line_of_its_first_refusal(
+    rt: HostRuntime,
+) -> Result<(), Fail> {
+    let cases: [(&[u8], Status, &[u8]); 9] = [
+        (
+            b"fn main() -> int {\n  let b: temp = temp(4);\n  let s: slice = view(b);\n  set(b, 0, 1);\n  return byte(s, 0);\n}\n",
+            Status::Refused,
+            b"line 4 Frozen\n",
+        ),
+        (
+            b"fn main() -> int {\n  let b: temp = temp(4);\n  if true { let s: slice = view(b); resp(s); }\n  set(b, 0, 1);\n  return 0;\n}\n",
+            Status::Ok,
+            b"ok 1\n",
+        ),
+        (
+            b"fn f(b: buf) -> int {\nput(b);\nreturn 0;\n}\nfn main() -> int {\nlet b: buf = alloc(6, \"k\", 1);\nlet x: int = f(b);\nput(b);\nreturn x;\n}\n",
+            Status::Refused,
+            b"line 8 Moved\n",
+        ),
+        // Refused by the grammar, the types and the rules of ownership at once.
+        (
+            b"fn main() -> int {\nlet b: temp = temp(x);\nlet c: temp = b;\nset(b, 0, 1)\nreturn 0;\n}\n",
+            Status::Refused,
+            b"line 5 Expected\n",
+        ),
+        (
+            b"fn main() -> int {\nlet b: temp = temp(1);\nlet c: temp = b;\nset(b, 0, 1);\nreturn x;\n}\n",
+            Status::Refused,
+            b"line 5 NoName\n",
+        ),
+        (b"", Status::Refused, b"line 1 Expected\n"),
+        (
+            b"fn main() -> int { return 0; }",
+            Status::Refused,
+            b"line 1 Expected\n",
+        ),
+        (
+            b"fn main() -> int {\nreturn 1a; }\n",
+            Status::Refused,
+            b"line 2 Token\n",
+        ),
+        (
+            b"fn f() -> int { return 0; }\nfn main() -> int { let x: int = f(); return x; }\n",
+            Status::Ok,
+            b"ok 2\n",
+        ),
+    ];
+    for (text, status, line) in cases {
+        expect(&rt, rt.alloc(), "check", text, status, line)?;
+    }
+    let longer = vec![in rt.alloc(); b' '; 16_385]?;
+    expect(
+        &rt,
+        rt.alloc(),
+        "check",
+        longer.as_slice(),
+        Status::Refused,
+        b"line 1 Long\n",
+    )
 }

@@ -2,15 +2,17 @@
 
 ghost use Rattle.std.specs.Prelude.{◌≡◌, ◌↔◌, ◌≤◌, IsTrue, IfSome};
 ghost use Rattle.sp_outside.specs.Faults.{FaultCounted};
+ghost use Rattle.splinter.specs.Checks.{Checks};
 ghost use Rattle.splinter.specs.Running.{Runs};
-ghost use Rattle.splinter.specs.Words.{AreRun};
+ghost use Rattle.splinter.specs.Words.{AreCheck, AreOnly, AreRun};
 
+use crate::check::check_command;
 use crate::run::run_command;
 use crate::status::Status;
 use sp_outside::{Sink, Source};
 use std::alloc::Global;
 
-/// Runs the command that the words name, which is `run` alone.
+/// Runs the command that the words name: `run` or `check`.
 pub fn splinter<R, S: Source, K: Sink>(
     _rt: &R,
     alloc: Global,
@@ -19,28 +21,33 @@ pub fn splinter<R, S: Source, K: Sink>(
     sink: &mut K,
 ) -> Status
     // The words are no command.
-    ensures usage { result ≡ Status.Usage ↔ (AreRun words.now → ⊥) }
+    ensures usage { result ≡ Status.Usage ↔ ((AreRun words.now → ⊥) × (AreCheck words.now → ⊥)) }
     ensures untouched { result ≡ Status.Usage → (source.new ≡ source.old) × (sink.new ≡ sink.old) }
     // What is written, where source and sink tell their content.
     ensures told { AreRun words.now → IfSome (S.left source.old) (λ input. IfSome (K.held sink.old) (λ held.
         Runs result input held (S.left source.new) (K.held sink.new))) }
-    // Why it stopped. Where no fault was counted a command ends Ok or Script, or for want of memory.
+    ensures checked { AreCheck words.now → IfSome (S.left source.old) (λ input. IfSome (K.held sink.old) (λ held.
+        Checks result input held (S.left source.new) (K.held sink.new))) }
+    // Why it stopped. Where no fault was counted `run` ends Ok or Script, and `check` Ok or Refused, or
+    // either for want of memory.
     ensures read_fault { result ≡ Status.ReadFault → FaultCounted (S.faults source.old) (S.faults source.new) }
     ensures write_fault { result ≡ Status.WriteFault → FaultCounted (K.faults sink.old) (K.faults sink.new) }
 {
-    if are_run(words) {
+    if are_only("run", words) {
         run_command(alloc, source, sink)
+    } else if are_only("check", words) {
+        check_command(alloc, source, sink)
     } else {
         Status::Usage
     }
 }
 
-/// Whether the words are the one word `run`.
-fn are_run(words: &[String]) -> bool
-    ensures { IsTrue result ↔ AreRun words.now }
+/// Whether the words are this one word.
+fn are_only(name: &str, words: &[String]) -> bool
+    ensures { IsTrue result ↔ AreOnly name.now words.now }
 {
     match words {
-        [word] => word.as_str() == "run",
+        [word] => word.as_str() == name,
         _ => false,
     }
 }
