@@ -1,0 +1,4 @@
+pub mod Worlds
+pub mod Gives
+pub mod Acts
+pub mod Finding
