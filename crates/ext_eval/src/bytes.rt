@@ -1,4 +1,4 @@
-ghost use Rattle.std.specs.Prelude.{◌≡◌, ◌+◌, ◌≤◌, ◌<◌, length, take, nat_le, slice_index, IfOk};
+ghost use Rattle.std.specs.Prelude.{◌≡◌, ◌+◌, ◌≤◌, ◌<◌, length, take, nat_le, IfOk, ◌%◌, ◌==◌, ◌&&◌};
 ghost use Rattle.ext_mean.specs.MeaningValues.{is_key, overwritten, part_of, word_of};
 
 use sp_base::{Blob, Key, Memory};
@@ -16,6 +16,13 @@ pub fn is_key(key: &[u8]) -> bool
     ensures { result ≡ is_key key.now }
 {
     1 <= key.len() && key.len() <= Key::MOST
+}
+
+/// Whether a width of `multiget` is from 1 to 64 and divides the length of the keys.
+pub fn is_width(width: u64, length: usize) -> bool
+    ensures { result ≡ (nat_le 1 width && nat_le width 64 && (length % width == 0)) }
+{
+    1 <= width && width <= Key::MOST as u64 && length as u64 % width == 0
 }
 
 /// The `count` bytes from a place on.

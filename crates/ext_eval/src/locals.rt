@@ -1,6 +1,6 @@
 ghost use Rattle.std.specs.Prelude.{◌≡◌, IfOk, OnOk, IsNone};
 ghost use Rattle.std.specs.Str.{bytes_eq};
-ghost use Rattle.ext_mean.specs.MeaningValues.{value_of};
+ghost use Rattle.ext_mean.specs.MeaningValues.{assigned, bound, value_of};
 ghost use Rattle.ext_mean.specs.Work.{Next};
 ghost use Rattle.ext_mean.specs.MeaningExpressions.{variable};
 ghost use Rattle.ext_mean.specs.MeaningStatements.{assign, declare, forget};
@@ -10,8 +10,9 @@ ghost use Rattle.ext_eval.specs.Finding.{first_from};
 use crate::halt::Halt;
 use crate::values::share;
 use crate::world::World;
-use ext_mean::{Local, Name, State, Value};
+use ext_mean::{Local, Name, Param, State, Value};
 use sp_base::{Memory, same_bytes};
+use sqlite_items::Items;
 use std::alloc::Global;
 
 /// Whether two names are the same.
@@ -53,20 +54,33 @@ fn place_named(name: &Name, locals: &[Local]) -> Option<usize>
     None
 }
 
-/// `name = value` for a variable that is in scope.
+/// The variables after `name = value`.
 #[tactic(auto, using(crate::proofs::FindingLemmas::finding))]
-pub fn assign(world: &World, state: &mut State, name: &Name, value: Value) -> Result<(), Halt>
-    ensures { Gives result state.new (assign name.now value state.old) }
+fn assigned(
+    alloc: Global,
+    locals: &mut Items<Local>,
+    name: &Name,
+    value: Value,
+) -> Result<(), Memory>
+    ensures { OnOk result (locals.new ≡ assigned name.now value locals.old) }
 {
-    let found = place_named(name, state.locals.as_slice());
+    let found = place_named(name, locals.as_slice());
     match found {
         Some(at) => {
-            let name = name.share(world.alloc)?;
-            state.locals.set(at, Local { name, value });
+            let name = name.share(alloc)?;
+            locals.set(at, Local { name, value });
             Ok(())
         }
         None => Ok(()),
     }
+}
+
+/// `name = value` for a variable that is in scope.
+pub fn assign(world: &World, state: &mut State, name: &Name, value: Value) -> Result<(), Halt>
+    ensures { Gives result state.new (assign name.now value state.old) }
+{
+    assigned(world.alloc, &mut state.locals, name, value)?;
+    Ok(())
 }
 
 /// A variable's declaration stands behind those before it.
@@ -85,4 +99,20 @@ pub fn forget(state: &mut State, depth: usize)
     while state.locals.len() > depth {
         let _ = state.locals.pop();
     }
+}
+
+/// Each parameter with a copy of its argument.
+pub fn bound(alloc: Global, params: &[Param], values: &[Value]) -> Result<Items<Local>, Memory>
+    ensures { IfOk result (λ locals. locals ≡ bound params.now values.now) }
+{
+    let mut locals = Items::new(alloc);
+    for (at, param) in params.iter().enumerate() {
+        if at >= values.len() {
+            return Ok(locals);
+        }
+        let name = param.name.share(alloc)?;
+        let value = share(alloc, &values[at])?;
+        locals.push(Local { name, value })?;
+    }
+    Ok(locals)
 }

@@ -1,7 +1,7 @@
 ghost use Rattle.std.specs.Prelude.{◌≡◌, ◌<◌, ◌^◌, Some, IfOk};
 ghost use Rattle.std.specs.Option.{option_copied, option_map};
 ghost use Rattle.sp_base.specs.Limits.{IsKey};
-ghost use Rattle.sp_base.specs.Places.{same_place};
+ghost use Rattle.sp_base.specs.Places.{Place, same_place};
 ghost use Rattle.ext_mean.specs.Views.{place_of, value_read};
 ghost use Rattle.ext_mean.specs.Work.{known_or_wanted};
 ghost use Rattle.ext_mean.specs.MeaningValues.{left_by, pending, place_changed};
@@ -88,7 +88,7 @@ fn known_or_wanted(
 ) -> Result<Option<Blob>, Halt>
     requires table { table < 2 ^ 32 }
     requires key { IsKey key.now }
-    ensures { let place = record { table = table; key = key.now } in
+    ensures { let place : Place = record { table = table; key = key.now } in
         Gives result state.new (known_or_wanted (value_read world.now.reads.now place) place state.old) }
 {
     let read = read_of(world.reads, table, key);
@@ -112,7 +112,7 @@ fn known_or_wanted(
 fn found(world: &World, state: &mut State, table: u64, key: &[u8]) -> Result<Option<Blob>, Halt>
     requires table { table < 2 ^ 32 }
     requires key { IsKey key.now }
-    ensures { let place = record { table = table; key = key.now } in
+    ensures { let place : Place = record { table = table; key = key.now } in
         Gives result state.new (found (world_of world.now) place (pending place state.old.writes) state.old) }
 {
     let change = pending(state.writes.as_slice(), table, key);

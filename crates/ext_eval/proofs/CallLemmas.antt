@@ -1,0 +1,42 @@
+-- Calls of the functions that stand before one.
+use Rattle.std.proofs.Common.{◌≡◌, ℕ, zero, suc, ◌+◌, ◌*◌, ◌-◌, ◌<◌, ◌≤◌, List, [], Option, Some, None, ap, arith, add-one, refl, sym, ◌∙◌}
+use Rattle.std.specs.Prelude.{slice_get, if◌then◌else◌}
+use Rattle.ext_mean.specs.declared.state.State.{State}
+use Rattle.ext_mean.specs.declared.state.Value.{Value}
+use Rattle.ext_mean.specs.declared.statement.Block.{Block}
+use Rattle.ext_mean.specs.declared.statement.Block.{size-Block}
+use Rattle.ext_mean.specs.declared.tree.Function.{Function}
+use Rattle.ext_mean.specs.Work.{World, Next}
+use Rattle.ext_mean.specs.MeaningValues.{nothing}
+use Rattle.ext_mean.specs.Meaning.{call_below, is_named, main_of, run_function}
+
+-- one function more may be called
+pub call_below-more : (world : World) (functions : List Function) (below last : ℕ) (name : List ℕ) (values : List Value) (state : State) → below ≡ last + 1
+    → call_below world functions below name values state
+    ≡ (if is_named name (slice_get functions last) then run_function world (call_below world functions last) (slice_get functions last) values else call_below world functions last name values) state
+call_below-more world functions below last name values state e =
+    let f : below ≡ suc last = omega arith in ap (λ (n : ℕ). call_below world functions n name values state) f
+
+-- the last of the functions is `main`
+pub main_of-last : (world : World) (functions : List Function) (count last : ℕ) (state : State) → count ≡ last + 1
+    → main_of world functions count state ≡ run_function world (call_below world functions last) (slice_get functions last) [] state
+main_of-last world functions count last state e =
+    let f : count ≡ suc last = omega arith in ap (λ (n : ℕ). main_of world functions n state) f
+
+pub main_of-none : (world : World) (functions : List Function) (count : ℕ) (state : State) → count ≡ 0
+    → main_of world functions count state ≡ Next nothing state
+main_of-none world functions count state e = ap (λ (n : ℕ). main_of world functions n state) e
+
+pub ruleset mains = (main_of-last, main_of-none)
+
+pub ruleset calls = (call_below-more)
+
+-- how deep the block of a function is
+abbrev pub depth_of : Option Function → ℕ
+depth_of (Some function) = size-Block function.body
+depth_of None = 0
+
+-- a bound on the depth of what the first functions may still run
+abbrev pub weight : List Function → ℕ → ℕ
+weight functions zero = 0
+weight functions (suc count) = weight functions count + (8 * depth_of (slice_get functions count) + 16)
