@@ -29,7 +29,12 @@ pub fn declares(
 }
 
 /// `name = value;`
-pub fn assigns(world: &World, state: &mut State, name: &Name, value: &Expr) -> Result<Option<Value>, Halt>
+pub fn assigns(
+    world: &World,
+    state: &mut State,
+    name: &Name,
+    value: &Expr,
+) -> Result<Option<Value>, Halt>
     ensures { Gives result state.new (assigns (world_of world.now) name.now value.now state.old) }
 {
     let value = evaluate(world, state, value)?;
@@ -87,7 +92,14 @@ pub fn copies(
 {
     let place = evaluate(world, state, place)?;
     let source = evaluate(world, state, source)?;
-    overwrite(world, state, name, true, number_of(&place), bytes_of(&source))?;
+    overwrite(
+        world,
+        state,
+        name,
+        true,
+        number_of(&place),
+        bytes_of(&source),
+    )?;
     Ok(None)
 }
 
@@ -101,7 +113,12 @@ pub fn puts(world: &World, state: &mut State, name: &Name) -> Result<Option<Valu
 }
 
 /// `del(table, key);`
-pub fn deletes(world: &World, state: &mut State, table: &Expr, key: &Expr) -> Result<Option<Value>, Halt>
+pub fn deletes(
+    world: &World,
+    state: &mut State,
+    table: &Expr,
+    key: &Expr,
+) -> Result<Option<Value>, Halt>
     ensures { Gives result state.new (deletes (world_of world.now) table.now key.now state.old) }
 {
     let table = evaluate(world, state, table)?;

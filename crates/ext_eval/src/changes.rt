@@ -40,11 +40,7 @@ fn place_of_change(writes: &[Write], table: u64, key: &[u8]) -> Option<usize>
 
 /// The changes after one more: it takes the place of the one at its own place, or is the last.
 #[tactic(auto, using(crate::proofs::FindingLemmas::finding))]
-fn changed(
-    mut writes: Vec<Write>,
-    pending: Option<usize>,
-    new: Write,
-) -> Result<Vec<Write>, Memory>
+fn changed(mut writes: Vec<Write>, pending: Option<usize>, new: Write) -> Result<Vec<Write>, Memory>
     requires { pending
         ≡ first_from (λ write. same_place (place_changed write) (place_changed new)) 0 writes.items }
     ensures { IfOk result (λ after. after.items ≡ changed new writes.items) }

@@ -123,12 +123,7 @@ fn found(world: &World, state: &mut State, table: u64, key: &[u8]) -> Result<Opt
 }
 
 /// The read of a record: the table's level, 16 units, and then the record.
-pub fn read(
-    world: &World,
-    state: &mut State,
-    table: u64,
-    key: &[u8],
-) -> Result<Option<Blob>, Halt>
+pub fn read(world: &World, state: &mut State, table: u64, key: &[u8]) -> Result<Option<Blob>, Halt>
     requires { IsKey key.now }
     ensures { Gives result state.new (read (world_of world.now) table key.now state.old) }
 {

@@ -8,9 +8,7 @@ ghost use Rattle.ext_eval.specs.Blocks.{calls_and_declares, chooses, gets, gets_
 ghost use Rattle.ext_eval.specs.Gives.{Gives};
 ghost use Rattle.ext_eval.specs.Worlds.{calls_of, world_of};
 
-use crate::acts::{
-    arguments, assigns, copies, declares, deletes, puts, responds, sets, sets_word,
-};
+use crate::acts::{arguments, assigns, copies, declares, deletes, puts, responds, sets, sets_word};
 use crate::arms::Arms;
 use crate::bytes::is_width;
 use crate::expressions::evaluate;
@@ -25,25 +23,36 @@ use sp_base::{Blob, Trap};
 use sqlite_items::at;
 use std::mem;
 
-/// Runs a block's statements in order, until one returns. Its own variables are forgotten behind it.
+/// Runs statements in order, until one returns.
+#[cycle(run)]
+fn run_statements(
+    world: &World,
+    state: &mut State,
+    statements: &[Statement],
+) -> Result<Option<Value>, Halt>
+    ensures { Gives result state.new (one_by_one
+        (map (execute (world_of world.now) (calls_of world.now)) statements.now) state.old) }
+{
+    for statement in statements {
+        let returned = execute(world, state, statement)?;
+        match returned {
+            None => {}
+            Some(value) => return Ok(Some(value)),
+        }
+    }
+    Ok(None)
+}
+
+/// Runs a block's statements. Its own variables are forgotten behind it.
 #[cycle(run)]
 #[tactic(auto, using(crate::proofs::BlockLemmas::blocks))]
 fn run_block(world: &World, state: &mut State, block: &Block) -> Result<Option<Value>, Halt>
     ensures { Gives result state.new (run_block (world_of world.now) (calls_of world.now) block.now state.old) }
 {
     let depth = state.locals.len();
-    for statement in block.items.as_slice() {
-        let returned = execute(world, state, statement)?;
-        match returned {
-            None => {}
-            Some(value) => {
-                forget(state, depth);
-                return Ok(Some(value));
-            }
-        }
-    }
+    let returned = run_statements(world, state, block.items.as_slice())?;
     forget(state, depth);
-    Ok(None)
+    Ok(returned)
 }
 
 /// The arm of a read: `some` binds the record's bytes.
@@ -258,11 +267,7 @@ fn run_call(
 /// Runs a statement, which costs 1 unit before its operands. Answers the value that it returned.
 #[cycle(run)]
 #[tactic(auto, using(ext_mean::proofs::Equations::equations))]
-fn execute(
-    world: &World,
-    state: &mut State,
-    statement: &Statement,
-) -> Result<Option<Value>, Halt>
+fn execute(world: &World, state: &mut State, statement: &Statement) -> Result<Option<Value>, Halt>
     ensures { Gives result state.new
         (execute (world_of world.now) (calls_of world.now) statement.now state.old) }
 {

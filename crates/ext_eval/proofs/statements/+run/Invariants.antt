@@ -12,10 +12,10 @@ use Rattle.ext_eval.specs.Worlds.{calls_of, world_of}
 use Rattle.ext_eval.proofs.CallLemmas.{weight}
 use Rattle.ext_eval.proofs.statements.+run.Given as goal
 
-abbrev pub invariant-run_block-loop-statement : goal.invariant-run_block-loop-statement
-invariant-run_block-loop-statement l =
-    one_by_one (map (execute (world_of l.world) (calls_of l.world)) (drop l.statement-index l.statement-items)) l.state
-    ≡ one_by_one (map (execute (world_of l.world) (calls_of l.world)) l.statement-items) l.fn.state
+abbrev pub invariant-run_statements-loop-statement : goal.invariant-run_statements-loop-statement
+invariant-run_statements-loop-statement l =
+    one_by_one (map (execute (world_of l.world) (calls_of l.world)) (drop l.statement-index l.statements)) l.state
+    ≡ one_by_one (map (execute (world_of l.world) (calls_of l.world)) l.fn.statements) l.fn.state
 
 abbrev pub invariant-repeat-loop-turn : goal.invariant-repeat-loop-turn
 invariant-repeat-loop-turn l =
@@ -28,11 +28,14 @@ abbrev pub invariant-run_pieces-loop-piece : goal.invariant-run_pieces-loop-piec
 invariant-run_pieces-loop-piece l = record {
   left : length l.rest ≡ (l._piece-end - l._piece) * l.width;
   goes : one_by_one (map (gets_piece (world_of l.world) l.table (arms_of l.world l.arms)) (pieces (l._piece-end - l._piece) l.width l.rest)) l.state
-    ≡ one_by_one (map (gets_piece (world_of l.world) l.table (arms_of l.world l.arms)) (pieces l._piece-end l.width l.fn.keys)) l.fn.state;
+      ≡ one_by_one (map (gets_piece (world_of l.world) l.table (arms_of l.world l.arms)) (pieces l._piece-end l.width l.fn.keys)) l.fn.state;
 }
 
 abbrev pub decreases-execute : goal.decreases-execute
 decreases-execute l = weight l.world.now.functions.now l.world.now.below + (8 * size-Statement l.statement.now + 3)
+
+abbrev pub decreases-run_statements : goal.decreases-run_statements
+decreases-run_statements l = weight l.world.now.functions.now l.world.now.below + (8 * goal.size-run_statements l + 4)
 
 abbrev pub decreases-run_block : goal.decreases-run_block
 decreases-run_block l = weight l.world.now.functions.now l.world.now.below + (8 * size-Block l.block.now + 4)
