@@ -18,3 +18,6 @@ mod values;
 mod world;
 
 pub use evaluating::eval;
+
+#[cfg(test)]
+mod tests;

@@ -23,6 +23,9 @@ use sp_base::{Blob, Trap};
 use sqlite_items::at;
 use std::mem;
 
+/// The units of a turn of a `while`, besides those of its statements.
+const UNITS_OF_TURN: u32 = 1;
+
 /// Runs statements in order, until one returns.
 #[cycle(run)]
 fn run_statements(
@@ -111,7 +114,7 @@ fn repeat(
         (run_block (world_of world.now) (calls_of world.now) body.now) state.old) }
 {
     for _turn in 0..world.budget {
-        charge(world, state, 1)?;
+        charge(world, state, UNITS_OF_TURN)?;
         let truth = evaluate(world, state, test)?;
         if !truth_of(&truth) {
             return Ok(None);
