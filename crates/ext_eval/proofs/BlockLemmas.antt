@@ -1,9 +1,6 @@
 -- The meaning of a block is that of its statements.
-use Rattle.std.proofs.Common.{◌≡◌, ℕ, suc, ◌+◌, ◌-◌, ◌<◌, ◌≤◌, List, [], ◌∷◌, length, map, drop, get_or, ap, arith, add-one, drop-cons, refl, sym, ◌∙◌}
-use Rattle.std.proofs.lemmas.Grind.{common_steps}
+use Rattle.std.proofs.Common.{◌≡◌, map, ap}
 use Rattle.ext_mean.specs.declared.state.State.{State}
-use Rattle.ext_mean.specs.declared.state.Value.{Value}
-use Rattle.ext_mean.specs.declared.statement.Statement.{Statement}
 use Rattle.ext_mean.specs.declared.statement.Block.{Block}
 use Rattle.ext_mean.specs.declared.statement.Statement.TheFolds.{fold_out-Block}
 use Rattle.ext_mean.specs.Work.{World}

@@ -1,14 +1,13 @@
 -- One piece of work, and what is left behind it.
-use Rattle.std.proofs.Common.{◌≡◌, ℕ, suc, ◌+◌, ◌-◌, ◌*◌, ◌<◌, ◌≤◌, Bool, true, false, List, [], ◌∷◌, length, map, take, drop, get_or, Option, Some, None, Result, Err, refl, ap, sym, ◌∙◌, subst, arith, add-one, drop-cons}
+use Rattle.std.proofs.Common.{◌≡◌, ℕ, suc, ◌+◌, ◌*◌, ◌<◌, true, List, ◌∷◌, length, map, take, drop, get_or, Option, Some, None, Result, Err, refl, ap, sym, ◌∙◌, subst, arith, add-one, drop-cons}
 use Rattle.ext_mean.specs.declared.run.Run.{Run}
 use Rattle.ext_mean.specs.declared.state.State.{State}
 use Rattle.ext_mean.specs.declared.state.Value.{Value}
-use Rattle.ext_mean.specs.declared.state.Value.TheVariants as value
 use Rattle.ext_mean.specs.declared.statement.Statement.{Statement}
 use Rattle.ext_mean.specs.declared.statement.Statement.TheFolds.{fold_out-Statement}
 use Rattle.ext_mean.specs.Work.{World, Step, Next, Ends, Work, after, charge, give}
 use Rattle.ext_mean.specs.MeaningValues.{pieces, truth_of}
-use Rattle.ext_mean.specs.MeaningStatements.{Calls, Course, arm, behind, block_step, branch, declare, execute, forget, one_by_one, run_block, scoped, statement_step, turns}
+use Rattle.ext_mean.specs.MeaningStatements.{Calls, Course, behind, block_step, execute, forget, one_by_one, run_block, scoped, statement_step, turns}
 use Rattle.ext_eval.specs.declared.halt.Halt.{Halt}
 use Rattle.ext_eval.specs.declared.halt.Halt.TheVariants.{Memory, Ended}
 use Rattle.ext_eval.specs.Gives.{Gives}

@@ -1,8 +1,6 @@
-use Rattle.std.proofs.Common.{◌≡◌, ℕ, ◌+◌, ◌-◌, List, [], length, Some, refl, ap, sym, ◌∙◌, arith}
+use Rattle.std.proofs.Common.{◌≡◌, ◌+◌, ◌-◌, List, [], length, Some, refl, ap, sym, ◌∙◌, arith}
 use Rattle.std.specs.Prelude.{slice_get}
-use Rattle.ext_mean.specs.declared.tree.Function.{Function}
 use Rattle.ext_mean.specs.declared.state.Value.{Value}
-use Rattle.ext_mean.specs.Meaning.{main_of}
 use Rattle.ext_eval.specs.Worlds.{world_of}
 use Rattle.ext_eval.proofs.CallLemmas.{callee, main_of-last}
 use Rattle.ext_eval.proofs.StepLemmas.{gives-along}

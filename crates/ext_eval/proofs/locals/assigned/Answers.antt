@@ -1,6 +1,5 @@
-use Rattle.std.proofs.Common.{◌≡◌, List, Some, None, ap, sym, ◌∙◌}
+use Rattle.std.proofs.Common.{◌≡◌, Some, None, ap, sym, ◌∙◌}
 use Rattle.std.specs.Str.{bytes_eq}
-use Rattle.ext_mean.specs.declared.state.Local.{Local}
 use Rattle.ext_eval.specs.Finding.{first_from}
 use Rattle.ext_eval.proofs.FindingLemmas.{assigned-found, assigned-absent}
 use Rattle.ext_eval.proofs.locals.assigned.Goals as goal

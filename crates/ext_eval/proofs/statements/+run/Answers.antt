@@ -1,18 +1,15 @@
-use Rattle.std.proofs.Common.{◌≡◌, ℕ, ◌+◌, ◌-◌, ◌/◌, ◌∷◌, [], List, length, map, drop, take, Option, Some, None, true, false, refl, ap, sym, ◌∙◌, subst, arith}
+use Rattle.std.proofs.Common.{◌≡◌, ℕ, ◌+◌, ◌-◌, ◌/◌, List, length, map, drop, Option, Some, true, false, refl, ap, sym, ◌∙◌, arith}
 use Rattle.std.specs.Prelude.{slice_get}
 use Rattle.std.proofs.lemmas.Result.{err_from_is_err_and}
 use Rattle.ext_mean.specs.declared.state.State.{State}
-use Rattle.ext_mean.specs.declared.state.Value.{Value}
 use Rattle.ext_mean.specs.declared.state.Value.TheVariants as value
-use Rattle.ext_mean.specs.declared.tree.Function.{Function}
-use Rattle.ext_mean.specs.Work.{Next, Ends, after}
+use Rattle.ext_mean.specs.Work.{after}
 use Rattle.ext_mean.specs.MeaningValues.{pieces, truth_of}
 use Rattle.ext_mean.specs.MeaningExpressions.{evaluate}
 use Rattle.ext_mean.specs.MeaningStatements.{behind, branch, declare, execute, one_by_one, read, run_block}
 use Rattle.ext_mean.specs.Meaning.{call_below}
 use Rattle.ext_eval.specs.Arms.{arms_of}
 use Rattle.ext_eval.specs.Blocks.{gets_piece}
-use Rattle.ext_eval.specs.Gives.{Gives}
 use Rattle.ext_eval.specs.Worlds.{calls_of, world_of}
 use Rattle.ext_eval.proofs.CallLemmas.{callee, named-last}
 use Rattle.ext_eval.proofs.StepLemmas.{ends-alike, gives-along, unpaid, one-statement, goes-behind, returns-past, ends-with, goes-on, one-turn, one-piece, fewer-keys, scoped-ends, scoped-next}
