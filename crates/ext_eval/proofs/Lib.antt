@@ -1,0 +1,4 @@
+pub mod FindingLemmas
+pub mod BlockLemmas
+pub mod CallLemmas
+pub mod StepLemmas
