@@ -1,4 +1,5 @@
 pub mod Lists
+pub mod OneProgram
 pub mod OnlyProved
 pub mod ParseProved
 pub mod Readings

@@ -149,7 +149,7 @@ append-one : (before : List Placed) (next : Placed) (after : List Placed) → (b
 append-one [] next after = refl
 append-one (first ∷ before) next after = ap (λ z. first ∷ z) (append-one before next after)
 
-append-none : (items : List Placed) → items ++ [] ≡ items
+pub append-none : (items : List Placed) → items ++ [] ≡ items
 append-none [] = refl
 append-none (first ∷ items) = ap (λ z. first ∷ z) (append-none items)
 

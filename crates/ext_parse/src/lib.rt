@@ -2,9 +2,11 @@
 #![tactic(auto)]
 
 mod fault;
+mod laws;
 mod parsing;
 mod program;
 
 pub use fault::ParseFault;
+pub use laws::texts_spell_one_program;
 pub use parsing::parse;
 pub use program::Parsed;

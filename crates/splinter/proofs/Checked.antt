@@ -1,6 +1,7 @@
 -- What a check leaves, by what is to be written and what was.
 use Rattle.std.specs.Prelude.{IfSome}
-use Rattle.std.proofs.Common.{◌≡◌, ◌<◌, ℕ, List, [], ◌++◌, Option, Some, None, length, sym, refl, subst, inl, inr, arith}
+use Rattle.std.proofs.lemmas.Fmt.{decimal_digit}
+use Rattle.std.proofs.Common.{◌≡◌, ◌<◌, ℕ, List, [], ◌∷◌, ◌++◌, ap, codes, Option, Some, None, length, sym, refl, subst, inl, inr, arith}
 use Rattle.sp_outside.specs.Reading.{IsLongerInput, IsWholeInput}
 use Rattle.ext_mean.specs.declared.codes.SyntaxCode.TheVariants as code
 use Rattle.ext_mean.specs.declared.refusal.Refusal.TheVariants as refusal
@@ -41,24 +42,31 @@ told-checked (Some input) left None after bytes text result stands whole is writ
 told-checked (Some input) left (Some there) after bytes text result stands whole is written =
     checked result stands input text there left after whole.nothing (subst (λ (b : List ℕ). IsVerdict b stands text) whole.whole is) written
 
+-- the line of an input that is too long
+abbrev long_line : List ℕ
+long_line = codes "line 1 Long" ++ 10 ∷ []
+
+long-line : long_line ≡ refused_line 1 (refusal.Syntax code.Long)
+long-line = ap (λ digits. codes "line " ++ (digits ++ 32 ∷ (codes "Long" ++ 10 ∷ []))) (sym (decimal_digit 1 (omega arith)))
+
 -- an input that is too long is refused at its first line
-too-long : (input : List ℕ) → 16384 < length input → IsRefusal input (refused_line 1 (refusal.Syntax code.Long))
+too-long : (input : List ℕ) → 16384 < length input → IsRefusal input long_line
 too-long input more = record {
   line = 1;
   which = refusal.Syntax code.Long;
   refused = by_syntax (large more);
   none = λ program accepted. absurd (omega (arith, more, accepted.spelled.1.reading.size));
-  text_is = refl;
+  text_is = long-line;
 }
 
 pub told-too-long : (before left held after : Option (List ℕ)) (result : Status) → IfSome before (λ input. IsLongerInput 16384 input left)
-    → IfSome held (λ there. WritesText result status.Refused there (refused_line 1 (refusal.Syntax code.Long)) after)
+    → IfSome held (λ there. WritesText result status.Refused there long_line after)
     → IfSome before (λ input. IfSome held (λ there. Checks result input there left after))
 told-too-long None left held after result longer written = tt
 told-too-long (Some input) left None after result longer written = tt
 told-too-long (Some input) left (Some there) after result longer (inl h) =
     subst (λ (s : Status). Checks s input there left after) (sym h.status_is)
-    (record { text = refused_line 1 (refusal.Syntax code.Long); refuses = too-long input longer.more; written = h.written })
+    (record { text = long_line; refuses = too-long input longer.more; written = h.written })
 told-too-long (Some input) left (Some there) after result longer (inr h) =
     subst (λ (s : Status). Checks s input there left after) (sym h.status_is)
-    (record { text = refused_line 1 (refusal.Syntax code.Long); text_is = inr (too-long input longer.more); prefix = h.prefix })
+    (record { text = long_line; text_is = inr (too-long input longer.more); prefix = h.prefix })
