@@ -10,7 +10,7 @@ use Rattle.ext_mean.specs.Text.{SpellsAt}
 use Rattle.ext_mean.specs.Typing.{IsTyped, type_fault}
 use Rattle.ext_parse.specs.declared.fault.ParseFault.{ParseFault}
 use Rattle.ext_parse.specs.declared.fault.ParseFault.TheVariants as parse
-use Rattle.ext_parse.specs.declared.program.Parsed.{Parsed}
+use Rattle.ext_parse.specs.declared.parsed.Parsed.{Parsed}
 use Rattle.ext_parse.specs.Faults as parsing
 use Rattle.ext_check.specs.declared.fault.CheckFault.{CheckFault}
 use Rattle.ext_check.specs.declared.fault.CheckFault.TheVariants as fault

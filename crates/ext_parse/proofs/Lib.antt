@@ -1,5 +1,14 @@
+pub mod Chains
 pub mod Lists
+pub mod Marks
+pub mod Names
 pub mod OneProgram
 pub mod OnlyProved
+pub mod Operands
 pub mod ParseProved
+pub mod Parts
+pub mod Places
+pub mod Programs
 pub mod Readings
+pub mod Statements
+pub mod Steps

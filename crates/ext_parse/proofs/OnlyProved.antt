@@ -24,7 +24,7 @@ use Rattle.ext_tokens.proofs.ReadingsAreOne.{ends-one}
 use Rattle.ext_grammar.specs.Agreement.{Make}
 use Rattle.ext_grammar.specs.Reading.{accepted, whole_answer}
 use Rattle.ext_grammar.proofs.AgreementProved.{programs-are-accepted}
-use Rattle.ext_parse.specs.Endings.{ending_of}
+use Rattle.ext_parse.specs.Readers.{ending_of}
 
 and-first : (a b : Bool) → (a && b) ≡ true → a ≡ true
 and-first true b is = refl

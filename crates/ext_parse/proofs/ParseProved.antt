@@ -23,7 +23,7 @@ use Rattle.ext_tokens.proofs.ReadingsAreOne.{ends-one}
 use Rattle.ext_grammar.specs.Agreement.{Begin, First, at_token, at_end, Make}
 use Rattle.ext_grammar.specs.Reading.{Ending, accepted, faulty, whole_answer}
 use Rattle.ext_grammar.proofs.AgreementProved.{programs-are-accepted, accepted-are-programs, faults-are-first}
-use Rattle.ext_parse.specs.Endings.{ending_of}
+use Rattle.ext_parse.specs.Readers.{ending_of}
 
 -- where the text ends behind the tokens, only a gap is left
 complete-gap : (text rest : List ℕ) (placed : List Placed) (last : End) → (ending_of last).complete ≡ true → IsEnd text placed rest last → IsGap rest

@@ -8,9 +8,10 @@ use Rattle.ext_tokens.specs.Scanning.{IsScanned}
 use Rattle.ext_grammar.specs.Reading.{Answer, accepted, faulty, whole_answer}
 use Rattle.ext_parse.specs.declared.fault.ParseFault.{ParseFault}
 use Rattle.ext_parse.specs.declared.fault.ParseFault.TheVariants as fault
-use Rattle.ext_parse.specs.declared.program.Parsed.{Parsed}
-use Rattle.ext_parse.specs.Endings.{ending_of}
-use Rattle.ext_parse.specs.Faults.{Explains, Answers}
+use Rattle.ext_parse.specs.declared.parsed.Parsed.{Parsed}
+use Rattle.ext_parse.specs.Readers.{ending_of}
+use Rattle.ext_parse.specs.Ends.{IsAnswered}
+use Rattle.ext_parse.specs.Faults.{Explains}
 use Rattle.ext_parse.proofs.OnlyProved.{only}
 use Rattle.ext_parse.proofs.ParseProved as parse
 
@@ -28,33 +29,22 @@ abbrev pub answer_to : Scanned → Answer
 answer_to scanned = whole_answer (ending_of scanned.end) scanned.tokens.items
 
 pub if-found : (text : List ℕ) (scanned : Scanned) (answer : Answer) (result : Result Parsed ParseFault) → answer ≡ answer_to scanned → length text ≤ most_text → EndsLine text → IsScanned text scanned
-    → IfOk result (λ parsed. answer ≡ accepted parsed.program parsed.lines.items)
-    → IfOk result (λ parsed. SpellsAt text parsed.program parsed.lines.items)
+    → IsAnswered result answer → IfOk result (λ parsed. SpellsAt text parsed.program parsed.lines.items)
 if-found text scanned answer (Ok parsed) this size ends is same = parse.found text scanned parsed.program parsed.lines.items size ends is (sym this ∙ same)
 if-found text scanned answer (Err e) this size ends is same = tt
 
-if-explained : (text : List ℕ) (scanned : Scanned) (e : ParseFault) → length text ≤ most_text → EndsLine text → IsScanned text scanned → Answers (answer_to scanned) e → Explains text e
-if-explained text scanned (fault.Syntax line which) size ends is same = parse.fault text scanned line which size ends is same
-if-explained text scanned fault.Memory size ends is same = tt
-
 pub if-fault : (text : List ℕ) (scanned : Scanned) (answer : Answer) (result : Result Parsed ParseFault) → answer ≡ answer_to scanned → length text ≤ most_text → EndsLine text → IsScanned text scanned
-    → IfErr result (λ e. Answers answer e)
-    → IfErr result (λ e. Explains text e)
+    → IsAnswered result answer → IfErr result (λ e. Explains text e)
 if-fault text scanned answer (Ok parsed) this size ends is same = tt
-if-fault text scanned answer (Err e) this size ends is same = if-explained text scanned e size ends is (subst (λ z. Answers z e) this same)
-
--- where a program is the answer, a fault is want of memory
-only-memory : (answer : Answer) (program : Program) (lines : List ℕ) (e : ParseFault) → answer ≡ accepted program lines → Answers answer e → e ≡ fault.Memory
-only-memory answer program lines (fault.Syntax line which) same is = absurd (let f : faulty line which ≡ accepted program lines = sym is ∙ same in cc)
-only-memory answer program lines fault.Memory same is = refl
+if-fault text scanned answer (Err (fault.Syntax line which)) this size ends is same = parse.fault text scanned line which size ends is (sym this ∙ same)
+if-fault text scanned answer (Err fault.Memory) this size ends is same = tt
 
 pub if-only : (text : List ℕ) (scanned : Scanned) (answer : Answer) (result : Result Parsed ParseFault) → answer ≡ answer_to scanned → IsScanned text scanned
-    → IfOk result (λ parsed. answer ≡ accepted parsed.program parsed.lines.items)
-    → IfErr result (λ e. Answers answer e)
-    → (program : Program) (lines : List ℕ) → SpellsAt text program lines
+    → IsAnswered result answer → (program : Program) (lines : List ℕ) → SpellsAt text program lines
     → MatchResult result (λ parsed. (parsed.program ≡ program) × (parsed.lines.items ≡ lines)) (λ e. e ≡ fault.Memory)
-if-only text scanned answer (Ok parsed) this is same answers program lines spelled =
+if-only text scanned answer (Ok parsed) this is same program lines spelled =
     let e : accepted parsed.program parsed.lines.items ≡ accepted program lines = sym same ∙ this ∙ only text scanned program lines is spelled in
     (ap program_or e, ap lines_or e)
-if-only text scanned answer (Err e) this is same answers program lines spelled =
-    only-memory answer program lines e (this ∙ only text scanned program lines is spelled) answers
+if-only text scanned answer (Err (fault.Syntax line which)) this is same program lines spelled =
+    absurd (let f : faulty line which ≡ accepted program lines = sym same ∙ this ∙ only text scanned program lines is spelled in cc)
+if-only text scanned answer (Err fault.Memory) this is same program lines spelled = refl

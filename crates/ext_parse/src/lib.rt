@@ -1,12 +1,20 @@
-//! The text of extensions: the parser that gives a text's tree or its first fault.
+//! The parser of extensions: the tree of a text with the lines of its items, or its first fault.
 #![tactic(auto)]
 
+mod blocks;
+mod expressions;
 mod fault;
+mod functions;
 mod laws;
+mod level;
+mod look;
+mod parsed;
 mod parsing;
-mod program;
+mod plain;
+mod reader;
+mod reading;
 
 pub use fault::ParseFault;
 pub use laws::texts_spell_one_program;
+pub use parsed::Parsed;
 pub use parsing::parse;
-pub use program::Parsed;

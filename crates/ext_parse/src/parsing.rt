@@ -5,7 +5,8 @@ ghost use Rattle.ext_mean.specs.Tokens as spelling;
 ghost use Rattle.ext_parse.specs.Faults.{Explains};
 
 use crate::fault::ParseFault;
-use crate::program::{Parsed, read_program};
+use crate::parsed::Parsed;
+use crate::reading::read_program;
 use ext_mean::SyntaxCode;
 use ext_tokens::{ends_line, scan_text};
 use std::alloc::Global;
