@@ -11,6 +11,7 @@ use std::alloc::Global;
 
 /// The program of these tokens with the lines of its items, or the first fault of them and of what
 /// stands behind them.
+#[tactic(auto, unfolding(crate::specs::Readers::answer_for))]
 pub fn read_program(alloc: Global, tokens: &[Placed], end: End) -> Result<Parsed, ParseFault>
     ensures { IsAnswered result (whole_answer (ending_of end) tokens.now) }
 {
