@@ -71,7 +71,7 @@ none-moves of found around before this None is e =
     ap (λ (o : Option BinOp). on_chain of found around before o (on_behind found around before this)) is
 none-moves of found around before this (Some operator) is e =
     ap (λ (o : Option BinOp). on_chain of found around before o (on_behind found around before this)) is
-      ∙ ap (λ (test : Bool). cond test (operates before (unary (side of (right of operator found around)))) (on_behind found around before this)) (at-level-none of operator e)
+    ∙ ap (λ (test : Bool). cond test (operates before (unary (side of (right of operator found around)))) (on_behind found around before this)) (at-level-none of operator e)
 
 pub chain-none : (of : Level) (found : Expr) (around : AroundExpr) (there : Stand) → operator_at of (next there) ≡ None → left (behind found (chain of around)) there ≡ left (behind found around) there
 chain-none of found around there e =
@@ -127,4 +127,5 @@ negated-one found around there =
     alike (behind found (negated around)) (behind (expr.Not found) around) there refl (λ placed. refl)
 
 pub ruleset taken_operators = (chain-some, chain-full, chain-none, not-some, not-full, not-none)
+
 pub ruleset operands = (right-compared, right-chained, side-by_tighter, negated-one)

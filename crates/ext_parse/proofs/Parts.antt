@@ -57,7 +57,7 @@ none-found-there operators looking name block around there e =
 pub none-found : (operators : ℕ) (looking : Looking) (name : List ℕ) (block : Block) (around : AroundStatement) (there : Stand) → next (going_on operators there) ≡ Some (token.Word word.None) → left (none_word operators looking name block around) there ≡ left (fixed mark.Arm (braces (none_block looking name block operators around))) (advanced (going_on operators there))
 none-found operators looking name block around there e =
     none-goes_on operators looking name block around there
-      ∙ none-found-there operators looking name block around there e
+    ∙ none-found-there operators looking name block around there e
 
 none-refused-there : (operators : ℕ) (looking : Looking) (name : List ℕ) (block : Block) (around : AroundStatement) (there : Stand) → (next (going_on operators there) ≡ Some (token.Word word.None) → ⊥) → left (none_word operators looking name block around) (going_on operators there) ≡ refusal (going_on operators there)
 unfolding going_on
@@ -79,7 +79,7 @@ arms-goes_on operators statement around there = goes (there.rest)
 pub arms-found : (operators : ℕ) (statement : Statement) (around : AroundStatement) (there : Stand) → next (going_on operators there) ≡ Some (token.Mark mark.CloseBlock) → left (arms_end operators statement around) there ≡ left (done statement around) (going_on 0 (advanced (going_on operators there)))
 arms-found operators statement around there e =
     arms-goes_on operators statement around there
-      ∙ ending_one (arms_end operators statement around) (done statement around) (token.Mark mark.CloseBlock) 0 (going_on operators there) (λ line. refl) e
+    ∙ ending_one (arms_end operators statement around) (done statement around) (token.Mark mark.CloseBlock) 0 (going_on operators there) (λ line. refl) e
 
 arms-refused-there : (operators : ℕ) (statement : Statement) (around : AroundStatement) (there : Stand) → (next (going_on operators there) ≡ Some (token.Mark mark.CloseBlock) → ⊥) → left (arms_end operators statement around) (going_on operators there) ≡ refusal (going_on operators there)
 unfolding going_on
@@ -112,7 +112,7 @@ pub ruleset else_met = (else-found, else-none)
 pub value-call : (name : List ℕ) (of : Kind) (called : List ℕ) (around : AroundStatement) (there : Stand) → name_at (next there) ≡ Some called → next (advanced there) ≡ Some (token.Mark mark.Open) → left (value name of around) there ≡ left (first_argument name of called around) (advanced (advanced there))
 value-call name of called around there e opens =
     quiet (value name of around) (behind_name name of called around) (token.Name called) there (λ line. refl) (name-token (next there) called e)
-      ∙ quiet (behind_name name of called around) (first_argument name of called around) (token.Mark mark.Open) (advanced there) (λ line. refl) opens
+    ∙ quiet (behind_name name of called around) (first_argument name of called around) (token.Mark mark.Open) (advanced there) (λ line. refl) opens
 
 no-open-moves : (name : List ℕ) (of : Kind) (called : List ℕ) (around : AroundStatement) (before : ℕ) (this : Token) → (this ≡ token.Mark mark.Open → ⊥) → on_token (behind_name name of called around) before this ≡ on_token (behind (expr.Var called) (level_operand (let_value name of around))) before this
 no-open-moves name of called around before (token.Mark mark.Open) other = absurd (other refl)
@@ -137,8 +137,8 @@ value-by name of around there None e other = value-unnamed name of around there 
 value-by name of around there (Some called) e other =
     let at : next there ≡ Some (token.Name called) = name-token (next there) called e in
     quiet (value name of around) (behind_name name of called around) (token.Name called) there (λ line. refl) at
-      ∙ no-open name of called around (advanced there) other
-      ∙ sym (quiet (unary (level_operand (let_value name of around))) (behind (expr.Var called) (level_operand (let_value name of around))) (token.Name called) there (λ line. refl) at)
+    ∙ no-open name of called around (advanced there) other
+    ∙ sym (quiet (unary (level_operand (let_value name of around))) (behind (expr.Var called) (level_operand (let_value name of around))) (token.Name called) there (λ line. refl) at)
 
 pub value-other : (name : List ℕ) (of : Kind) (around : AroundStatement) (there : Stand) → (next (advanced there) ≡ Some (token.Mark mark.Open) → ⊥) → left (value name of around) there ≡ left (unary (level_operand (let_value name of around))) there
 value-other name of around there other = value-by name of around there (name_at (next there)) refl other

@@ -42,7 +42,7 @@ not-ended (first ∷ more) counted ending none = by_test ending.complete refl
 no-function-first : (known : List Function) (counted : Counted) (ending : Ending) (there : Placed) (rest : List Placed) → on_token (functions known) counted.operators there.token ≡ None → answer (functions known) counted ending (there ∷ rest) ≡ refused counted ending (there ∷ rest)
 no-function-first known counted ending there rest none =
     ap (λ (m : Option Move). answered (cond (is_operator there.token && nat_le 64 counted.operators) (stops there.line code.Many) (met_by counted there m)) (λ c k. answer c k ending rest)) none
-      ∙ by_test (is_operator there.token && nat_le 64 counted.operators)
+    ∙ by_test (is_operator there.token && nat_le 64 counted.operators)
   where
     by_test : (test : Bool) → answered (cond test (stops there.line code.Many) (stops there.line code.Expected)) (λ c k. answer c k ending rest) ≡ cond test (faulty there.line code.Many) (faulty there.line code.Expected)
     by_test true = refl

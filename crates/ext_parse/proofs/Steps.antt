@@ -17,7 +17,7 @@ use Rattle.ext_parse.specs.Readers.{Stand, left, next, first_of, behind_first, f
 step-list : (coming after : Coming) (this : Token) (counted : Counted) (then_counted : ℕ → Counted) → ((line : ℕ) → met coming counted (record { token = this; line = line }) ≡ goes after (then_counted line)) → (ending : Ending) (first : Placed) (rest : List Placed) → first.token ≡ this → answer coming counted ending (first ∷ rest) ≡ answer after (then_counted first.line) ending rest
 step-list coming after this counted then_counted moves ending first rest is =
     ap (λ (t : Token). answer coming counted ending (record { token = t; line = first.line } ∷ rest)) is
-      ∙ ap (λ (m : Met). answered m (λ c k. answer c k ending rest)) (moves first.line)
+    ∙ ap (λ (m : Met). answered m (λ c k. answer c k ending rest)) (moves first.line)
 
 -- the same counts, behind a token that begins no item
 abbrev pub kept : Counted → Counted
@@ -56,7 +56,7 @@ quiet-list : (coming after : Coming) (this : Token) (counted other : Counted) �
 quiet-list coming after this counted other moves ending [] e = cc
 quiet-list coming after this counted other moves ending (first ∷ rest) e =
     step-list coming after this counted (λ _. kept other) moves ending first rest (cc)
-      ∙ ap (λ (k : Counted). answer after k ending rest) (same-kept other)
+    ∙ ap (λ (k : Counted). answer after k ending rest) (same-kept other)
 
 -- behind a token that begins an item on this line
 abbrev pub started : Counted → List ℕ → Counted
@@ -128,6 +128,7 @@ alike-moves first second there ends same_first same_second moves =
   where
     met_with : Counted → Placed → Option Move → Met
     met_with counted placed move = cond (is_operator placed.token && nat_le 64 counted.operators) (stops placed.line code.Many) (met_by counted placed move)
+
     by_operators : (coming : Coming) (counted : Counted) (placed : Placed) → open_operators coming counted.operators ≡ counted.operators → met coming counted placed ≡ cond (is_operator placed.token && nat_le 64 counted.operators) (stops placed.line code.Many) (met_by counted placed (on_token coming counted.operators placed.token))
     by_operators coming counted placed same = ap (λ (n : ℕ). cond (is_operator placed.token && nat_le 64 n) (stops placed.line code.Many) (met_by counted placed (on_token coming n placed.token))) same
 
@@ -136,11 +137,11 @@ refuses-list : (coming : Coming) (counted : Counted) (ending : Ending) (placed :
 refuses-list coming counted ending [] ends same none = ends
 refuses-list coming counted ending (there ∷ rest) ends same none =
     let at_same : met coming counted there ≡ cond (is_operator there.token && nat_le 64 counted.operators) (stops there.line code.Many) (met_by counted there (on_token coming counted.operators there.token)) =
-      ap (λ (n : ℕ). cond (is_operator there.token && nat_le 64 n) (stops there.line code.Many) (met_by counted there (on_token coming n there.token))) same in
+    ap (λ (n : ℕ). cond (is_operator there.token && nat_le 64 n) (stops there.line code.Many) (met_by counted there (on_token coming n there.token))) same in
     let at_none : met coming counted there ≡ cond (is_operator there.token && nat_le 64 counted.operators) (stops there.line code.Many) (stops there.line code.Expected) =
-      at_same ∙ ap (λ (m : Option Move). cond (is_operator there.token && nat_le 64 counted.operators) (stops there.line code.Many) (met_by counted there m)) (none there.token refl) in
+    at_same ∙ ap (λ (m : Option Move). cond (is_operator there.token && nat_le 64 counted.operators) (stops there.line code.Many) (met_by counted there m)) (none there.token refl) in
     ap (λ (m : Met). answered m (λ c k. answer c k ending rest)) at_none
-      ∙ by_test (is_operator there.token && nat_le 64 counted.operators) there.line ending rest
+    ∙ by_test (is_operator there.token && nat_le 64 counted.operators) there.line ending rest
   where
     by_test : (test : Bool) (line : ℕ) (ending : Ending) (rest : List Placed) → answered (cond test (stops line code.Many) (stops line code.Expected)) (λ c k. answer c k ending rest) ≡ cond test (faulty line code.Many) (faulty line code.Expected)
     by_test true line ending rest = refl
@@ -167,11 +168,9 @@ pub remaining-going_on : (operators : ℕ) (there : Stand) → remaining (going_
 unfolding remaining going_on
 remaining-going_on operators there = refl
 
-
 pub remaining-with_operator : (there : Stand) → remaining (advanced (with_operator there)) ≡ remaining (advanced there)
 unfolding remaining advanced with_operator
 remaining-with_operator there = refl
-
 
 -- an operator that is one too many
 full-list : (coming : Coming) (counted : Counted) (ending : Ending) (placed : List Placed) (this : Token) → open_operators coming counted.operators ≡ counted.operators → first_of placed ≡ Some this → is_operator this ≡ true → nat_le 64 counted.operators ≡ true → answer coming counted ending placed ≡ refused counted ending placed
@@ -181,7 +180,7 @@ full-list coming counted ending (there ∷ rest) this same e is many =
     let both : (is_operator there.token && nat_le 64 counted.operators) ≡ true = ap (λ (b : Bool). b && nat_le 64 counted.operators) is_one ∙ many in
     let opened : (is_operator there.token && nat_le 64 (open_operators coming counted.operators)) ≡ true = ap (λ (n : ℕ). is_operator there.token && nat_le 64 n) same ∙ both in
     let at : answer coming counted ending (there ∷ rest) ≡ faulty there.line code.Many =
-      ap (λ (b : Bool). answered (cond b (stops there.line code.Many) (met_by counted there (on_token coming (open_operators coming counted.operators) there.token))) (λ c k. answer c k ending rest)) opened in
+    ap (λ (b : Bool). answered (cond b (stops there.line code.Many) (met_by counted there (on_token coming (open_operators coming counted.operators) there.token))) (λ c k. answer c k ending rest)) opened in
     at ∙ sym (ap (λ (b : Bool). cond b (faulty there.line code.Many) (faulty there.line code.Expected)) both)
 
 pub full : (coming : Coming) (there : Stand) (this : Token) → open_operators coming there.counted.operators ≡ there.counted.operators → next there ≡ Some this → is_operator this ≡ true → nat_le 64 there.counted.operators ≡ true → left coming there ≡ refusal there
@@ -195,7 +194,7 @@ crowded-list coming counted ending [] this stopped e = cc
 crowded-list coming counted ending (first ∷ rest) this stopped e =
     let is : first.token ≡ this = cc in
     ap (λ (t : Token). answer coming counted ending (record { token = t; line = first.line } ∷ rest)) is
-      ∙ ap (λ (m : Met). answered m (λ c k. answer c k ending rest)) (stopped first.line)
+    ∙ ap (λ (m : Met). answered m (λ c k. answer c k ending rest)) (stopped first.line)
 
 pub too_many : (coming : Coming) (this : Token) (there : Stand) → ((line : ℕ) → met coming there.counted (record { token = this; line = line }) ≡ stops line code.Many) → next there ≡ Some this → left coming there ≡ crowding there
 unfolding left next crowding

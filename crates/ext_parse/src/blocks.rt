@@ -150,7 +150,7 @@ impl Reader<'_> {
     fn armed(&mut self, look: Look) -> Result<Statement, ParseFault>
         ensures reads { (known : List Statement) (around : AroundBlock) →
             Reads result (λ found. left (statements (known ++ found ∷ []) around) (stand self.new))
-                (left (fixed mark.OpenBlock (some_word (looking_of look) (in_block known around))) (stand self.old)) }
+            (left (fixed mark.OpenBlock (some_word (looking_of look) (in_block known around))) (stand self.old)) }
         ensures shorter { OnOk result (remaining (stand self.new) < remaining (stand self.old)) }
     {
         let arms = self.arms()?;

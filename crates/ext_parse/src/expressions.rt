@@ -226,7 +226,10 @@ impl Reader<'_> {
         self.expect(Mark::Comma)?;
         let second = self.expression()?;
         self.expect(Mark::Close)?;
-        Ok((Boxed::new(self.alloc, first)?, Boxed::new(self.alloc, second)?))
+        Ok((
+            Boxed::new(self.alloc, first)?,
+            Boxed::new(self.alloc, second)?,
+        ))
     }
 
     /// `"(" expr "," expr ","`, the first two of three operands.
@@ -243,7 +246,10 @@ impl Reader<'_> {
         self.expect(Mark::Comma)?;
         let second = self.expression()?;
         self.expect(Mark::Comma)?;
-        Ok((Boxed::new(self.alloc, first)?, Boxed::new(self.alloc, second)?))
+        Ok((
+            Boxed::new(self.alloc, first)?,
+            Boxed::new(self.alloc, second)?,
+        ))
     }
 
     /// `"(" expr "," expr "," expr ")"` behind `sub`.

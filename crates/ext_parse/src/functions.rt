@@ -53,7 +53,7 @@ impl Reader<'_> {
     fn parameters(&mut self) -> Result<Items<Param>, ParseFault>
         ensures reads { (known : List Function) (name : List ℕ) →
             Reads result (λ params. left (fixed mark.Arrow (result_kind known name params)) (stand self.new))
-                (left (first_parameter known name) (stand self.old)) }
+            (left (first_parameter known name) (stand self.old)) }
         ensures shorter { OnOk result (remaining (stand self.new) < remaining (stand self.old)) }
     {
         let mut found = Items::new(self.alloc);
@@ -73,7 +73,7 @@ impl Reader<'_> {
     fn parameter(&mut self) -> Result<Param, ParseFault>
         ensures reads { (known : List Function) (name : List ℕ) (params : List Param) →
             Reads result (λ param. left (behind_parameter known name (params ++ param ∷ [])) (stand self.new))
-                (left (parameter known name params) (stand self.old)) }
+            (left (parameter known name params) (stand self.old)) }
         ensures shorter { OnOk result (remaining (stand self.new) < remaining (stand self.old)) }
     {
         let name = self.local()?;

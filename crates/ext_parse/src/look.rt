@@ -15,7 +15,10 @@ use sqlite_items::Boxed;
 /// A read with its operands.
 #[derive(Drop)]
 pub enum Look {
-    Get { table: Boxed<Expr>, key: Boxed<Expr> },
+    Get {
+        table: Boxed<Expr>,
+        key: Boxed<Expr>,
+    },
     Multiget {
         table: Boxed<Expr>,
         keys: Boxed<Expr>,

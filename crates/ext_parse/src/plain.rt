@@ -79,7 +79,7 @@ impl Reader<'_> {
     fn value(&mut self, name: Name, kind: Kind) -> Result<Statement, ParseFault>
         ensures reads { (known : List Statement) (around : AroundBlock) →
             Reads result (λ found. left (statements (known ++ found ∷ []) around) (stand self.new))
-                (left (value name kind (in_block known around)) (stand self.old)) }
+            (left (value name kind (in_block known around)) (stand self.old)) }
         ensures shorter { OnOk result (remaining (stand self.new) < remaining (stand self.old)) }
     {
         if let Some(function) = self.called()? {
@@ -102,7 +102,7 @@ impl Reader<'_> {
     fn arguments(&mut self) -> Result<Items<Expr>, ParseFault>
         ensures reads { (name : List ℕ) (kind : Kind) (called : List ℕ) (around : AroundStatement) →
             Reads result (λ values. left (semicolon (does.LetCall name kind called values) around) (stand self.new))
-                (left (first_argument name kind called around) (stand self.old)) }
+            (left (first_argument name kind called around) (stand self.old)) }
         ensures shorter { OnOk result (remaining (stand self.new) < remaining (stand self.old)) }
     {
         let mut found = Items::new(self.alloc);
@@ -123,7 +123,7 @@ impl Reader<'_> {
     fn written(&mut self, word: Word) -> Result<Statement, ParseFault>
         ensures reads { (known : List Statement) (around : AroundBlock) →
             Reads result (λ found. left (statements (known ++ found ∷ []) around) (stand self.new))
-                (left (fixed mark.Open (written_name (written_by word) (in_block known around))) (stand self.old)) }
+            (left (fixed mark.Open (written_name (written_by word) (in_block known around))) (stand self.old)) }
         ensures shorter { OnOk result (remaining (stand self.new) < remaining (stand self.old)) }
     {
         self.expect(Mark::Open)?;

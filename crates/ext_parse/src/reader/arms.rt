@@ -36,7 +36,7 @@ impl Reader<'_> {
     pub fn none_word(&mut self, operators: u32) -> Result<(), ParseFault>
         ensures reads { (looking : Looking) (name : List ℕ) (block : Block) (around : AroundStatement) →
             Reads result (λ _. left (fixed mark.Arm (braces (none_block looking name block operators around))) (stand self.new))
-                (left (none_word operators looking name block around) (stand self.old)) }
+            (left (none_word operators looking name block around) (stand self.old)) }
         ensures shorter { OnOk result (remaining (stand self.new) < remaining (stand self.old)) }
     {
         self.go_on(operators);

@@ -51,7 +51,7 @@ impl Reader<'_> {
             Reads result (λ _. left (done statement around) (stand self.new)) (left (semicolon statement around) (stand self.old)) }
         ensures last { (found : Expr) (known : List Statement) (around : AroundBlock) →
             Reads result (λ _. left (last_brace (known ++ does.Return found ∷ []) around) (stand self.new))
-                (left (behind found (returned known around)) (stand self.old)) }
+            (left (behind found (returned known around)) (stand self.old)) }
         ensures shorter { OnOk result (remaining (stand self.new) < remaining (stand self.old)) }
     {
         if !self.eat(Mark::Semicolon) {

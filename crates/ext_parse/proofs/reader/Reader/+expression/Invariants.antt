@@ -45,8 +45,8 @@ decreases-alloc_of l = 20 * remaining (stand l.self.now) + 1
 abbrev pub invariant-chain-operators : goal.invariant-chain-operators
 invariant-chain-operators l = record {
   same : (around : AroundExpr) →
-  left (unary (side (of_level l.level) (chain (of_level l.level) around))) (stand l.fn.self) ≡ left (behind l.found (chain (of_level l.level) around)) (stand l.self);
-  shorter : remaining (stand l.self) < remaining (stand l.fn.self)
+      left (unary (side (of_level l.level) (chain (of_level l.level) around))) (stand l.fn.self) ≡ left (behind l.found (chain (of_level l.level) around)) (stand l.self);
+  shorter : remaining (stand l.self) < remaining (stand l.fn.self);
 }
 
 abbrev pub decreases-chain-operators : goal.decreases-chain-operators

@@ -8,7 +8,7 @@ use Rattle.ext_parse.proofs.reader.Reader.+statement.Given as goal
 abbrev pub invariant-block-items : goal.invariant-block-items
 invariant-block-items l = record {
   same : (around : AroundBlock) → left (braces around) (stand l.fn.self) ≡ left (statements l.items around) (stand l.self);
-  shorter : remaining (stand l.self) < remaining (stand l.fn.self)
+  shorter : remaining (stand l.self) < remaining (stand l.fn.self);
 }
 
 abbrev pub decreases-block-items : goal.decreases-block-items

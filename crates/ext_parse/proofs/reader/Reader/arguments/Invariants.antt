@@ -8,8 +8,8 @@ use Rattle.ext_parse.proofs.reader.Reader.arguments.Given as goal
 abbrev pub invariant-values : goal.invariant-values
 invariant-values l = record {
   same : (name : List ℕ) (kind : Kind) (called : List ℕ) (around : AroundStatement) →
-  left (first_argument name kind called around) (stand l.fn.self) ≡ left (expression (call_argument name kind called l.found around)) (stand l.self);
-  shorter : remaining (stand l.self) ≤ remaining (stand l.fn.self)
+      left (first_argument name kind called around) (stand l.fn.self) ≡ left (expression (call_argument name kind called l.found around)) (stand l.self);
+  shorter : remaining (stand l.self) ≤ remaining (stand l.fn.self);
 }
 
 abbrev pub decreases-values : goal.decreases-values

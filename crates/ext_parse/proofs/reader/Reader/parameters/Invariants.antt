@@ -8,8 +8,8 @@ use Rattle.ext_parse.proofs.reader.Reader.parameters.Given as goal
 abbrev pub invariant-params : goal.invariant-params
 invariant-params l = record {
   same : (known : List Function) (name : List ℕ) →
-  left (first_parameter known name) (stand l.fn.self) ≡ left (parameter known name l.found) (stand l.self);
-  shorter : remaining (stand l.self) ≤ remaining (stand l.fn.self)
+      left (first_parameter known name) (stand l.fn.self) ≡ left (parameter known name l.found) (stand l.self);
+  shorter : remaining (stand l.self) ≤ remaining (stand l.fn.self);
 }
 
 abbrev pub decreases-params : goal.decreases-params

@@ -8,7 +8,7 @@ use Rattle.ext_parse.proofs.reader.Reader.program.Given as goal
 abbrev pub invariant-functions : goal.invariant-functions
 invariant-functions l = record {
   same : left (grammar.functions []) (stand l.fn.self) ≡ left (grammar.functions l.functions) (stand l.self);
-  follows : may_follow (ends (stand l.self)) l.functions ≡ true
+  follows : may_follow (ends (stand l.self)) l.functions ≡ true;
 }
 
 abbrev pub decreases-functions : goal.decreases-functions
