@@ -18,3 +18,6 @@ pub use fault::ParseFault;
 pub use laws::texts_spell_one_program;
 pub use parsed::Parsed;
 pub use parsing::parse;
+
+#[cfg(test)]
+mod tests;
