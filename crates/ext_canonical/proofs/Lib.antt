@@ -1,0 +1,11 @@
+pub mod Pruned
+pub mod Levels
+pub mod LeanExpressions
+pub mod LeanStatements
+pub mod Bounded
+pub mod Spelled
+pub mod Ends
+pub mod Shorter
+pub mod Standing
+pub mod Written
+pub mod CanonicalProved
