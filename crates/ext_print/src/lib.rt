@@ -10,3 +10,6 @@ mod shown_statements;
 mod symbols;
 
 pub use printing::print;
+
+#[cfg(test)]
+mod tests;

@@ -1,9 +1,10 @@
 //! The canonical text: first the tokens of the tree, then their bytes.
 
-ghost use Rattle.std.specs.Prelude.{◌≡◌, ◌<◌, ◌++◌, [], ◌∷◌, false, IfOk, OnOk, if◌then◌else◌};
+ghost use Rattle.std.specs.Prelude.{◌≡◌, ◌<◌, ◌≤◌, ◌++◌, [], ◌∷◌, ℕ, List, length, false, IfOk, OnOk, if◌then◌else◌};
 ghost use Rattle.std.specs.Fmt.{decimal};
 ghost use Rattle.std.specs.List.{flat_map};
 ghost use Rattle.ext_mean.specs.Canonical as canon;
+ghost use Rattle.ext_mean.specs.Text.{Spells};
 ghost use Rattle.ext_mean.specs.Tokens as spelling;
 
 use crate::shown_functions::show_program;
@@ -16,6 +17,15 @@ use std::alloc::Global;
 
 /// The canonical text of a program.
 pub fn print(alloc: Global, program: &Program) -> Result<Blob, Memory>
+    ensures canonical { IfOk result (λ text. text ≡ canon.canonical program.now) }
+    // Where any text spells the program, this one spells it too, and is no longer.
+    ensures spelled { (source : List ℕ) → Spells source program.now → IfOk result (λ text. Spells text program.now) }
+    ensures short { (source : List ℕ) → Spells source program.now → IfOk result (λ text. length text ≤ length source) }
+{
+    canonical_text(alloc, program)
+}
+
+fn canonical_text(alloc: Global, program: &Program) -> Result<Blob, Memory>
     ensures { IfOk result (λ text. text ≡ canon.canonical program.now) }
 {
     let mut tokens = Items::new(alloc);
