@@ -1,4 +1,4 @@
-ghost use Rattle.std.specs.Prelude.{◌≡◌, ◌+◌, ◌≤◌, ◌<◌, length, take, nat_le, IfOk, ◌%◌, ◌==◌, ◌&&◌};
+ghost use Rattle.std.specs.Prelude.{◌≡◌, ◌+◌, ◌≤◌, length, nat_le, IfOk, ◌%◌, ◌==◌, ◌&&◌};
 ghost use Rattle.sp_base.specs.Limits.{IsKey};
 ghost use Rattle.ext_mean.specs.MeaningValues.{is_key, overwritten, part_of, word_of};
 

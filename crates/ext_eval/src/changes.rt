@@ -1,4 +1,4 @@
-ghost use Rattle.std.specs.Prelude.{◌≡◌, ◌++◌, ◌∷◌, [], IfOk};
+ghost use Rattle.std.specs.Prelude.{◌≡◌, IfOk};
 ghost use Rattle.sp_base.specs.Places.{Place, same_place};
 ghost use Rattle.ext_mean.specs.MeaningValues.{changed, place_changed};
 ghost use Rattle.ext_mean.specs.MeaningStatements.{del, overwrite, put, resp, write};

@@ -1,5 +1,4 @@
-ghost use Rattle.std.specs.Prelude.{◌≡◌, replicate, IfOk, IsTrue, ◌<◌, ◌^◌};
-ghost use Rattle.sp_base.specs.RightsList.{can_write};
+ghost use Rattle.std.specs.Prelude.{◌≡◌, replicate, IfOk};
 ghost use Rattle.ext_mean.specs.MeaningExpressions.{binary, byte_at, evaluate, expression_form, new_buffer, new_temp, sub_at, word_at};
 ghost use Rattle.ext_mean.specs.declared.expr.Expr.TheOpen.{Expr-F};
 ghost use Rattle.ext_eval.specs.Gives.{Gives};
