@@ -378,25 +378,3 @@ fn limits_hold_to_the_last_byte(rt: HostRuntime) -> Result<(), Fail> {
     let turning = "let i int 0 while true { = i + i 1 } return 0";
     expect(&rt, alloc, turning, b"", 100_000, "spent")
 }
-
-/// The most functions, each of which calls the one before it inside the most brackets. No proof speaks
-/// of the stack.
-#[test]
-fn the_deepest_calls_have_stack_enough(rt: HostRuntime) -> Result<(), Fail> {
-    let alloc = rt.alloc();
-    let mut text = String::from_str(alloc, "fn f0 -> int { return 1 }")?;
-    for number in 1..31u32 {
-        let before = number - 1;
-        write!(&mut text, " fn f{number} -> int {{")?;
-        for _ in 0..31u32 {
-            text.push_str(" if true {")?;
-        }
-        write!(&mut text, " call x int f{before} 0 return x")?;
-        for _ in 0..31u32 {
-            text.push_str(" } { }")?;
-        }
-        text.push_str(" return 0 }")?;
-    }
-    text.push_str(" call x int f30 0 return x")?;
-    expect(&rt, alloc, text.as_str(), b"", 1000, "993 done 1 x")
-}
