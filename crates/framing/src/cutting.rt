@@ -79,6 +79,9 @@ fn remove_front(bytes: &mut Vec<u8>, n: usize)
     requires { n ≤ vec_len bytes.old }
     ensures { bytes.new.items ≡ drop n bytes.old.items }
 {
+    if n == 0 {
+        return;
+    }
     let len = bytes.len();
     bytes.as_mut_slice().copy_within(n..len, 0);
     bytes.truncate(len - n);
