@@ -16,7 +16,7 @@ use Rattle.ext_grammar.proofs.KeptByTokens.{keeps}
 use Rattle.ext_grammar.proofs.Reached.{Reached, onward, counting, kept-move, slot-is, line-last, reached-zeroed, reached-counts}
 use Rattle.ext_grammar.proofs.Bounding.{both-true, functions-full, locals-full}
 
-move-of : (found : Option Move) (standing : Standing) (more : Coming → ℕ → Type 0) →
+pub move-of : (found : Option Move) (standing : Standing) (more : Coming → ℕ → Type 0) →
     Takes found standing more → (move : Move) × (found ≡ Some move) × (move.standing ≡ standing)
     × more move.coming move.operators
 move-of None standing more takes = absurd takes

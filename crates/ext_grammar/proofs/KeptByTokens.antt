@@ -1,5 +1,5 @@
 -- Each token keeps the counts.
-use Rattle.std.proofs.Common.{◌≡◌, ℕ, List, [], ◌∷◌, ◌++◌, None, refl, sym}
+use Rattle.std.proofs.Common.{◌≡◌, ℕ, List, [], ◌∷◌, ◌++◌, None, refl, sym, subst}
 use Rattle.ext_mean.specs.declared.expr.Expr.{Expr}
 use Rattle.ext_mean.specs.declared.expr.Expr.TheVariants as expr
 use Rattle.ext_mean.specs.declared.statement.Block.{Block}
@@ -11,10 +11,13 @@ use Rattle.ext_mean.specs.declared.token.Token.TheVariants as token
 use Rattle.ext_mean.specs.declared.token.Word.TheVariants as word
 use Rattle.ext_mean.specs.declared.tree.Function.{Function}
 use Rattle.ext_mean.specs.declared.tree.Param.{Param}
+use Rattle.ext_mean.specs.Bounds.{IsNaming, IsAnyName}
 use Rattle.ext_mean.specs.Derived.{block_of}
+use Rattle.ext_mean.specs.Wording.{Standing, naming}
 use Rattle.ext_grammar.specs.Coming.{Level, AroundBlock, AroundStatement, in_block, AroundExpr, chain, right, negated, in_parentheses, only_operand, first_of_two, second_of_two, first_of_three, second_of_three, third_of_three, call_argument, let_value, assigned, if_test, while_test, get_table, get_key, multiget_table, multiget_keys, multiget_width, write_place, write_value, del_table, del_key, answered, returned, Looking, Coming, fixed, unary, primary, behind, view_name, let_name, let_kind, value, behind_name, first_argument, written_name, put_name, some_word, some_name, none_word, arms_end, braces, statements, last_brace, maybe_else, functions, function_name, first_parameter, parameter, parameter_kind, behind_parameter, result_kind, level_operand, Move, operator_of, kind_of, name_of, is_mark, on_primary, on_unary, on_behind, on_statement, on_statements, on_done, on_else, on_value, on_behind_name, on_first_argument, on_some_word, on_none_word, on_functions, on_first_parameter, on_behind_parameter, on_token, done, closed, opens}
 use Rattle.ext_grammar.specs.Coming as coming
 use Rattle.ext_grammar.specs.Reading.{open_operators}
+use Rattle.ext_grammar.proofs.Walks.{Takes}
 use Rattle.ext_grammar.proofs.Kept.{Zeroed, Declares, Kept, kept-if, kept-mark, kept-some, kept-name, kept-chain, kept-longer-chain, done-zeroed, closed-zeroed}
 
 primary-keeps : (state : Coming) (around : AroundExpr) (before : ℕ) (next : Token) →
@@ -272,3 +275,26 @@ any-name (some_name looking around) declares before name none = cc
 any-name (first_parameter known of) declares before name none = cc
 any-name (parameter known of params) declares before name none = cc
 any-name _ declares before name none = declares
+
+naming-of : (before : ℕ) (standing : Standing) → naming before ≡ standing → IsNaming standing
+naming-of before standing same = let P : Standing → Type 0 = λ it. IsNaming it in subst P same tt
+
+-- and then it is the name of a local
+named : (state : Coming) → Declares state → (before : ℕ) (name : List ℕ) (standing : Standing)
+    (more : Coming → ℕ → Type 0) → Takes (on_token state before (token.Name name)) standing more →
+    IsNaming standing
+named (let_name around) declares before name standing more takes = naming-of before standing takes.0
+named (some_name looking around) declares before name standing more takes =
+    naming-of before standing takes.0
+named (first_parameter known of) declares before name standing more takes =
+    naming-of before standing takes.0
+named (parameter known of params) declares before name standing more takes =
+    naming-of before standing takes.0
+named _ declares before name standing more takes = absurd declares
+
+pub names-any : (state : Coming) → Declares state → (before : ℕ) (next : Token)
+    (standing : Standing) (more : Coming → ℕ → Type 0) → IsAnyName next →
+    Takes (on_token state before next) standing more → IsNaming standing
+names-any state declares before (token.Name name) standing more any takes =
+    named state declares before name standing more takes
+names-any state declares before _ standing more any takes = absurd any

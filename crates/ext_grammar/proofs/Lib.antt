@@ -22,4 +22,5 @@ pub mod Explained
 pub mod Bounding
 pub mod Faults
 pub mod Accepted
+pub mod Passed
 pub mod AgreementProved

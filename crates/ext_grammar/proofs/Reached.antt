@@ -44,7 +44,7 @@ pub tokens_of-append : (first second : List Placed) → tokens_of (first ++ seco
 tokens_of-append [] second = refl
 tokens_of-append (next ∷ first) second = ap (λ it. next.token ∷ it) (tokens_of-append first second)
 
-slot_tokens-append : (first second : List Slot) → slot_tokens (first ++ second) ≡ slot_tokens first
+pub slot_tokens-append : (first second : List Slot) → slot_tokens (first ++ second) ≡ slot_tokens first
     ++ slot_tokens second
 slot_tokens-append [] second = refl
 slot_tokens-append (next ∷ first) second =

@@ -66,3 +66,9 @@ FaultsAreFirst =
     (placed : List Placed) (ending : Ending) (line : ℕ) (which : SyntaxCode) →
     AreSoundAlone placed → whole_answer ending placed ≡ faulty line which →
     First placed ending line which
+
+-- a token behind which a program within the bounds goes on has no code
+abbrev pub PassedHaveNoCode : Type 0
+PassedHaveNoCode =
+    (before : List Placed) (next : Placed) (rest : List Placed) (which : SyntaxCode) →
+    Begin (before ++ next ∷ rest) → HasCode (tokens_of before) next.token which → ⊥

@@ -6,4 +6,6 @@
 
 mod laws;
 
-pub use laws::{accepted_are_programs, faults_are_first, programs_are_accepted};
+pub use laws::{
+    accepted_are_programs, faults_are_first, passed_have_no_code, programs_are_accepted,
+};

@@ -116,7 +116,7 @@ not-comment rest text shown same =
     let head : 0x23 ∷ rest ≡ shown.byte ∷ shown.more = same ∙ shown.whole in
     shown.no_comment cc
 
-blank-comment : (byte : ℕ) (a b : List ℕ) → is_blank byte ≡ true → byte ∷ a ≡ 0x23 ∷ b → ⊥
+pub blank-comment : (byte : ℕ) (a b : List ℕ) → is_blank byte ≡ true → byte ∷ a ≡ 0x23 ∷ b → ⊥
 blank-comment byte a b is same =
     let head : byte ≡ 0x23 = cc in
     let blanks : is_blank byte ≡ is_blank 0x23 = ap is_blank head in
@@ -154,7 +154,7 @@ text-line : (byte : ℕ) → is_text_byte byte ≡ false → byte ≡ newline �
 text-line byte bad same = let e : is_text_byte byte ≡ is_text_byte newline = ap is_text_byte same in cc
 
 -- a comment with a byte that is none of the language has no end
-line-broken : (a b x y : List ℕ) (byte : ℕ) → all_pass is_comment_byte a ≡ true → all_pass is_comment_byte b ≡ true
+pub line-broken : (a b x y : List ℕ) (byte : ℕ) → all_pass is_comment_byte a ≡ true → all_pass is_comment_byte b ≡ true
     → is_text_byte byte ≡ false → a ++ byte ∷ x ≡ b ++ newline ∷ y → ⊥
 line-broken [] [] x y byte good good' bad same = text-line byte bad cc
 line-broken [] (second ∷ b) x y byte good good' bad same =
@@ -169,7 +169,7 @@ line-broken (first ∷ a) (second ∷ b) x y byte good good' bad same =
     let behind : a ++ byte ∷ x ≡ b ++ newline ∷ y = cc in
     line-broken a b x y byte parts.1 parts'.1 bad behind
 
-comment-tails : (gap gap' a b x y rest rest' : List ℕ) → all_pass is_comment_byte a ≡ true → all_pass is_comment_byte b ≡ true
+pub comment-tails : (gap gap' a b x y rest rest' : List ℕ) → all_pass is_comment_byte a ≡ true → all_pass is_comment_byte b ≡ true
     → gap ≡ a ++ newline ∷ rest → gap' ≡ b ++ newline ∷ rest' → 0x23 ∷ (gap ++ x) ≡ 0x23 ∷ (gap' ++ y)
     → (a ≡ b) × (rest ++ x ≡ rest' ++ y)
 comment-tails gap gap' a b x y rest rest' good good' e e' same =
@@ -209,7 +209,7 @@ gap-left x y (comment {gap = gap} {rest = rest} words good e front) (comment {ga
     record { left = more.left; is_gap = more.is_gap; longer = ap (λ z. 0x23 ∷ z) inside; rest = more.rest }
 
 -- no gap is left before a byte that is shown
-none-left : {left : List ℕ} (x y : List ℕ) → IsGap left → IsShown x → x ≡ left ++ y → left ≡ []
+pub none-left : {left : List ℕ} (x y : List ℕ) → IsGap left → IsShown x → x ≡ left ++ y → left ≡ []
 none-left x y empty shown same = refl
 none-left x y (blank {byte = byte} {rest = rest} is left) shown same = absurd (not-blank byte (rest ++ y) x is shown (sym same))
 none-left x y (comment {gap = gap} words good e left) shown same = absurd (not-comment (gap ++ y) x shown (sym same))

@@ -3,6 +3,7 @@ pub mod Spellings
 pub mod Items
 pub mod Begins
 pub mod Gaps
+pub mod Stuck
 pub mod Slices
 pub mod Lexing
 pub mod Skipped
