@@ -2,6 +2,7 @@ pub mod Chains
 pub mod Lists
 pub mod Marks
 pub mod Names
+pub mod OneFault
 pub mod OneProgram
 pub mod OnlyProved
 pub mod Operands
@@ -12,3 +13,4 @@ pub mod Programs
 pub mod Readings
 pub mod Statements
 pub mod Steps
+pub mod Told

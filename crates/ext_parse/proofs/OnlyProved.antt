@@ -145,7 +145,7 @@ bounded slots before after next bounds same (inr deep) =
     (bounds parts.front parts.there parts.rest parts.whole).shallow
     (subst (λ z. IsTooDeep (slot_tokens parts.front) z) (sym parts.token) (subst (λ z. IsTooDeep z next.token) (sym parts.same) deep))
 
-append-one : (before : List Placed) (next : Placed) (after : List Placed) → (before ++ next ∷ []) ++ after ≡ before ++ next ∷ after
+pub append-one : (before : List Placed) (next : Placed) (after : List Placed) → (before ++ next ∷ []) ++ after ≡ before ++ next ∷ after
 append-one [] next after = refl
 append-one (first ∷ before) next after = ap (λ z. first ∷ z) (append-one before next after)
 

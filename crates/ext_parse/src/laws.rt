@@ -1,6 +1,16 @@
-ghost use Rattle.ext_parse.specs.Laws.{TextsSpellOneProgram};
+ghost use Rattle.ext_parse.specs.Laws.{FaultyTextsSpellNone, TextsHaveOneFault, TextsSpellOneProgram};
 
 /// A text spells at most one program, and its items have one line each.
 pub fn texts_spell_one_program()
     ensures { TextsSpellOneProgram }
+{}
+
+/// A text has at most one fault: one line and one code.
+pub fn texts_have_one_fault()
+    ensures { TextsHaveOneFault }
+{}
+
+/// A text that has a fault spells no program.
+pub fn faulty_texts_spell_none()
+    ensures { FaultyTextsSpellNone }
 {}

@@ -15,7 +15,7 @@ mod reader;
 mod reading;
 
 pub use fault::ParseFault;
-pub use laws::texts_spell_one_program;
+pub use laws::{faulty_texts_spell_none, texts_have_one_fault, texts_spell_one_program};
 pub use parsed::Parsed;
 pub use parsing::parse;
 

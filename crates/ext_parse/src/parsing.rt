@@ -1,8 +1,10 @@
 ghost use Rattle.std.specs.Prelude.{◌≡◌, ◌≤◌, ◌<◌, List, ℕ, IfOk, IfErr, MatchResult, Err, length};
+ghost use Rattle.ext_mean.specs.declared.codes.SyntaxCode.{SyntaxCode};
 ghost use Rattle.ext_mean.specs.declared.tree.Program.{Program};
+ghost use Rattle.ext_mean.specs.SyntaxFaults.{SyntaxFault};
 ghost use Rattle.ext_mean.specs.Text.{EndsLine, SpellsAt, most_text};
 ghost use Rattle.ext_mean.specs.Tokens as spelling;
-ghost use Rattle.ext_parse.specs.Faults.{Explains};
+ghost use Rattle.ext_parse.specs.Faults.{Explains, Tells};
 
 use crate::fault::ParseFault;
 use crate::parsed::Parsed;
@@ -23,6 +25,19 @@ pub fn parse(alloc: Global, text: &[u8]) -> Result<Parsed, ParseFault>
         MatchResult result (λ parsed. (parsed.program ≡ program) × (parsed.lines.items ≡ lines))
         (λ e. e ≡ ParseFault.Memory) }
     // A fault is the text's first one, with its line and its code.
+    ensures fault { IfErr result (λ e. Explains text.now e) }
+    // The text's first fault is told, unless memory runs out.
+    ensures only_fault { (line : ℕ) (code : SyntaxCode) → SyntaxFault text.now line code → Tells result line code }
+{
+    parse_text(alloc, text)
+}
+
+/// The same, by what is told alone.
+fn parse_text(alloc: Global, text: &[u8]) -> Result<Parsed, ParseFault>
+    ensures found { IfOk result (λ parsed. SpellsAt text.now parsed.program parsed.lines.items) }
+    ensures only { (program : Program) (lines : List ℕ) → SpellsAt text.now program lines →
+        MatchResult result (λ parsed. (parsed.program ≡ program) × (parsed.lines.items ≡ lines))
+        (λ e. e ≡ ParseFault.Memory) }
     ensures fault { IfErr result (λ e. Explains text.now e) }
 {
     if text.len() > MOST_TEXT {

@@ -11,16 +11,22 @@ use Rattle.ext_mean.specs.declared.tree.Program.{Program}
 use Rattle.ext_mean.specs.declared.run.Run.{Run}
 use Rattle.ext_mean.specs.declared.run.Run.TheVariants.{Done, Trapped, Wants, Spent}
 use Rattle.sp_base.specs.declared.outcomes.Outcome.{Outcome}
-use Rattle.ext_mean.specs.Meaning.{mean}
+use Rattle.ext_mean.specs.Lookup.{lookup_ended, lookup_work}
+use Rattle.ext_mean.specs.Meaning.{mean, start}
 use Rattle.ext_mean.proofs.LookupProved.{lookup-means}
 use Rattle.ext_mean.specs.Outcomes.{wanted_by, outcome_of}
 use Rattle.ext_mean.specs.Views.{View, part, place_of, value_read}
 use Rattle.book.specs.GrantsList.{RightsList}
 use Rattle.splinter.specs.declared.look_up.LookUp.{LookUp}
-use Rattle.splinter.specs.LookUps.{program_of, straight}
+use Rattle.splinter.specs.LookUps.{program_of}
+
+-- the straight work of a look-up
+abbrev straight : LookUp → List ℕ → ℕ → View → Run
+straight look_up args budget view =
+    lookup_ended (lookup_work (record { args = args; budget = budget; view = view }) look_up.table look_up.code start)
 
 -- a look-up means its straight work
-pub means-straight : (look_up : LookUp) (program : Program) (args : List ℕ) (budget : ℕ) (view : View)
+means-straight : (look_up : LookUp) (program : Program) (args : List ℕ) (budget : ℕ) (view : View)
     → program ≡ program_of look_up → mean program args budget view ≡ straight look_up args budget view
 means-straight look_up program args budget view same =
     ap (λ (p : Program). mean p args budget view) same ∙ lookup-means look_up.table look_up.code args budget view

@@ -39,7 +39,7 @@ impl LookUp {
 #[derive(Drop)]
 pub struct Extension {
     pub program: Arc<Program>,
-    /// The numbers by which the evaluator runs it.
+    /// The numbers of its text.
     pub look_up: LookUp,
     ghost same: { arc_value program ≡ program_of look_up },
 }

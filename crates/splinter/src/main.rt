@@ -3,7 +3,6 @@
 #![tactic(auto)]
 
 mod check;
-mod evaluator;
 mod fields;
 mod line;
 mod live;

@@ -10,11 +10,11 @@ ghost use Rattle.splinter.specs.Play.{meaning_of_turn, turn_of, turned, ended, s
 ghost use Rattle.splinter.specs.Steps.{IsLive};
 ghost use Rattle.splinter.specs.Stepping.{StepIs, StaysLive};
 
-use crate::evaluator::evaluate;
 use crate::line::{Line, Said};
 use crate::live::Live;
 use crate::look_up::Extension;
 use book::{Book, Commit, Finished, Read};
+use ext_eval::eval;
 use ext_mean::Run;
 use sp_base::{Key, Memory, Outcome, TableId, Writes};
 use std::alloc::Global;
@@ -77,14 +77,8 @@ fn meaning_now(
     let units = live.call.budget.min(live.spent + QUANTUM);
     let rights = book.rights(live.call.caller.tenant)?;
     let args = live.call.args.bytes();
-    evaluate(
-        alloc,
-        extension,
-        args,
-        units,
-        &rights,
-        live.reads.as_slice(),
-    )
+    let reads = live.reads.as_slice();
+    eval(alloc, &extension.program, args, units, &rights, reads)
 }
 
 /// The call ends by the verdict on its entry.
