@@ -3,3 +3,4 @@ pub mod FaultLines
 pub mod ItemLines
 pub mod TypeCounts
 pub mod Verdicts
+pub mod OneRefusal

@@ -1,0 +1,11 @@
+ghost use Rattle.ext_check.specs.Laws.{RefusedAreNotAccepted, TextsHaveOneRefusal};
+
+/// A text has at most one first refusal: one line and one code.
+pub fn texts_have_one_refusal()
+    ensures { TextsHaveOneRefusal }
+{}
+
+/// A text that is refused is accepted as no program.
+pub fn refused_are_not_accepted()
+    ensures { RefusedAreNotAccepted }
+{}
