@@ -1,20 +1,18 @@
 -- The check of ownership has a code, or none, for each item.
-use Rattle.std.proofs.Common.{◌≡◌, ℕ, ◌+◌, List, [], ◌∷◌, ◌++◌, length, map, Option, refl, subst, ap, sym, ◌∙◌, arith, length-append}
+use Rattle.std.proofs.Common.{◌≡◌, List, [], ◌∷◌, ◌++◌, length, map, refl, subst, ap, sym, ◌∙◌, arith, length-append}
 use Rattle.std.specs.Prelude.{flat_map}
-use Rattle.ext_mean.specs.declared.check_codes.BorrowCode.{BorrowCode}
 use Rattle.ext_mean.specs.declared.statement.Block.{Block}
 use Rattle.ext_mean.specs.declared.statement.Statement.{Statement}
 use Rattle.ext_mean.specs.declared.statement.Statement.TheViews.{roll-Statement, roll-Block}
 use Rattle.ext_mean.specs.declared.statement.Statement.TheOpen.{Statement-F, Block-F}
 use Rattle.ext_mean.specs.declared.statement.Statement.TheFolds.{ind-Block, fold-roll-Statement, fold-roll-Block, map-Statement, map-Block}
 use Rattle.ext_mean.specs.declared.tree.Function.{Function}
-use Rattle.ext_mean.specs.declared.tree.Param.{Param}
 use Rattle.ext_mean.specs.declared.tree.Program.{Program}
 use Rattle.ext_mean.specs.ProgramItems.{Item, joined, items_form, statement_items, block_items, function_items, program_items}
 use Rattle.ext_mean.proofs.ItemEquations.{statement_items-roll, block_items-roll}
 use Rattle.ext_mean.specs.OwnedItems.{Scene}
 use Rattle.ext_mean.specs.Borrowing.{loans_of}
-use Rattle.ext_mean.specs.Ownership.{Course, Owned, Passed, again, again_both, block_passes, declares_more, extended, one_of, owned, owned_block, owned_function, owned_functions, owned_step, pass_in_order, scene_of, with_arm, with_held}
+use Rattle.ext_mean.specs.Ownership.{Course, Owned, Passed, block_passes, declares_more, extended, owned, owned_block, owned_function, owned_functions, owned_step, pass_in_order, scene_of, with_arm, with_held}
 use Rattle.std.specs.Prelude.{Bool, false, replicate}
 
 module _ (loans : List (List Bool)) where

@@ -1,9 +1,9 @@
 -- A faulty item has its line.
-use Rattle.std.proofs.Common.{◌≡◌, ◌<◌, ◌≤◌, ℕ, ◌+◌, List, [], ◌∷◌, length, Option, Some, None, refl, ap, sym, ◌∙◌, arith}
+use Rattle.std.proofs.Common.{◌≡◌, ◌<◌, ℕ, ◌+◌, List, [], ◌∷◌, length, Option, Some, None, refl, ap, sym, ◌∙◌, arith}
 use Rattle.ext_mean.specs.declared.check_codes.BorrowCode.{BorrowCode}
 use Rattle.ext_mean.specs.declared.check_codes.TypeCode.{TypeCode}
 use Rattle.ext_mean.specs.declared.tree.Program.{Program}
-use Rattle.ext_mean.specs.Items.{first_fault, noted}
+use Rattle.ext_mean.specs.Items.{first_fault}
 use Rattle.ext_mean.specs.Ownership.{borrow_fault, owned_functions}
 use Rattle.ext_mean.specs.Typing.{type_codes, type_fault}
 use Rattle.ext_check.proofs.BorrowCounts.{borrow-codes-count}

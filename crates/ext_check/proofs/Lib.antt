@@ -4,3 +4,4 @@ pub mod ItemLines
 pub mod TypeCounts
 pub mod Verdicts
 pub mod OneRefusal
+pub mod Told

@@ -1,26 +1,25 @@
 -- A text has one first refusal at most, and then it is accepted as no program.
-use Rattle.std.proofs.Common.{◌≡◌, ℕ, List, Option, Some, None, refl, sym, ◌∙◌, ap, subst}
+use Rattle.std.proofs.Common.{◌≡◌, ℕ, List, Option, Some, None, sym, ◌∙◌, ap, subst}
 use Rattle.std.specs.Prelude.{slice_get}
-use Rattle.ext_mean.specs.declared.check_codes.BorrowCode.{BorrowCode}
-use Rattle.ext_mean.specs.declared.check_codes.TypeCode.{TypeCode}
 use Rattle.ext_mean.specs.declared.refusal.Refusal.{Refusal}
 use Rattle.ext_mean.specs.declared.refusal.Refusal.TheVariants as refusal
 use Rattle.ext_mean.specs.declared.tree.Program.{Program}
 use Rattle.ext_mean.specs.Ownership.{IsOwned, borrow_fault}
-use Rattle.ext_mean.specs.Text.{SpellsAt}
 use Rattle.ext_mean.specs.Typing.{IsTyped, type_fault}
 use Rattle.ext_parse.proofs.OneFault.{one-fault, faulty-spells-none}
 use Rattle.ext_parse.proofs.OneProgram.{one-program}
-use Rattle.ext_check.specs.Checking.{IsFaulty, by_types, by_borrows, IsRefused, by_syntax, by_checks}
+use Rattle.ext_check.specs.Checking.{IsFaulty, by_types, by_borrows, by_syntax, by_checks}
 use Rattle.ext_check.specs.Laws.{TextsHaveOneRefusal, RefusedAreNotAccepted}
 
 -- one item and one code
 same-found : {A : Type 0} (fault : Option (ℕ × A)) (item other : ℕ) (which another : A)
     → fault ≡ Some (item, which) → fault ≡ Some (other, another) → (item ≡ other) × (which ≡ another)
-same-found fault item other which another first second =
-    let both : Some (item, which) ≡ Some (other, another) = sym first ∙ second in
-    let pairs : (item, which) ≡ (other, another) = cc in
-    (ap (λ pair. pair.0) pairs, ap (λ pair. pair.1) pairs)
+same-found {A = A} fault item other which another first second =
+    let pair : ℕ × A = (item, which) in
+    let pair' : ℕ × A = (other, another) in
+    let both : Some pair ≡ Some pair' = sym first ∙ second in
+    let pairs : pair ≡ pair' = cc in
+    (ap (λ (it : ℕ × A). it.0) pairs, ap (λ (it : ℕ × A). it.1) pairs)
 
 -- one line of an item
 same-line : (lines : List ℕ) (item other line last : ℕ) → item ≡ other
@@ -30,8 +29,10 @@ same-line lines item other line last same first second =
     cc
 
 not-typed : {A : Type 0} (fault : Option (ℕ × A)) (item : ℕ) (which : A) → fault ≡ Some (item, which) → fault ≡ None → ⊥
-not-typed fault item which first second =
-    let both : Some (item, which) ≡ None = sym first ∙ second in
+not-typed {A = A} fault item which first second =
+    let pair : ℕ × A = (item, which) in
+    let found : Option (ℕ × A) = Some pair in
+    let both : found ≡ None = sym first ∙ second in
     cc
 
 faults-one : (program : Program) (lines : List ℕ) (line other : ℕ) (which another : Refusal)

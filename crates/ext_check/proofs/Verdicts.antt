@@ -1,8 +1,6 @@
 -- What is said of a text, by what is said of the program that it spells.
 use Rattle.std.proofs.Common.{◌≡◌, ◌∙◌, sym, subst, ap, ℕ, List, Option, Some, None, refl}
 use Rattle.std.specs.Prelude.{IfOk, IfErr, OnOk, MatchResult, Result, Ok, Err}
-use Rattle.ext_mean.specs.declared.check_codes.BorrowCode.{BorrowCode}
-use Rattle.ext_mean.specs.declared.check_codes.TypeCode.{TypeCode}
 use Rattle.ext_mean.specs.declared.refusal.Refusal.{Refusal}
 use Rattle.ext_mean.specs.declared.tree.Program.{Program}
 use Rattle.ext_mean.specs.Ownership.{IsOwned, borrow_fault}

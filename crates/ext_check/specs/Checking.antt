@@ -1,5 +1,5 @@
 -- Which texts are extensions that may run, and why others are refused.
-use Rattle.std.specs.Prelude.{◌≡◌, ℕ, List, Option, Some, length, slice_get}
+use Rattle.std.specs.Prelude.{◌≡◌, ℕ, List, Some, Result, Ok, Err, length, slice_get}
 use Rattle.ext_mean.specs.declared.check_codes.BorrowCode.{BorrowCode}
 use Rattle.ext_mean.specs.declared.check_codes.TypeCode.{TypeCode}
 use Rattle.ext_mean.specs.declared.codes.SyntaxCode.{SyntaxCode}
@@ -46,6 +46,12 @@ pub data IsRefused (text : List ℕ) : ℕ → Refusal → Type 0 where
 abbrev pub Explains : List ℕ → CheckFault → Type 0
 Explains text (fault.Refused line which) = IsRefused text line which
 Explains text fault.Memory = Unit {0}
+
+-- this line and this code are told, unless memory ran out
+abbrev pub Tells : Result Program CheckFault → ℕ → Refusal → Type 0
+Tells (Ok program) line which = ⊥
+Tells (Err (fault.Refused other another)) line which = (other ≡ line) × (another ≡ which)
+Tells (Err fault.Memory) line which = Unit {0}
 
 abbrev pub Judges : Program → List ℕ → CheckFault → Type 0
 Judges program lines (fault.Refused line which) = IsFaulty program lines line which

@@ -1,10 +1,11 @@
-ghost use Rattle.std.specs.Prelude.{◌≡◌, ◌<◌, IfOk, IfErr, OnOk, MatchResult, None, Some, length, slice_get};
+ghost use Rattle.std.specs.Prelude.{◌≡◌, ◌<◌, ℕ, IfOk, IfErr, OnOk, MatchResult, None, Some, length, slice_get};
+ghost use Rattle.ext_mean.specs.declared.refusal.Refusal.{Refusal};
 ghost use Rattle.ext_mean.specs.declared.tree.Program.{Program};
 ghost use Rattle.ext_mean.specs.Ownership.{IsOwned, borrow_fault};
 ghost use Rattle.ext_mean.specs.Typing.{IsTyped, type_fault};
 ghost use Rattle.ext_borrow.specs.Refusals as borrows;
 ghost use Rattle.ext_types.specs.Refusals as types;
-ghost use Rattle.ext_check.specs.Checking.{Explains, HaveLines, IsAccepted, Judges, unparsed};
+ghost use Rattle.ext_check.specs.Checking.{Explains, HaveLines, IsAccepted, IsRefused, Judges, Tells, unparsed};
 
 use crate::fault::CheckFault;
 use ext_borrow::{BorrowRefusal, check_borrows};
@@ -21,6 +22,18 @@ pub fn check_text(alloc: Global, text: &[u8]) -> Result<Program, CheckFault>
     ensures only { (program : Program) → IsAccepted text.now program →
         MatchResult result (λ other. other ≡ program) (λ e. e ≡ CheckFault.Memory) }
     // A refusal is the text's first one.
+    ensures refused { IfErr result (λ e. Explains text.now e) }
+    // The text's first refusal is told, unless memory runs out.
+    ensures only_refused { (line : ℕ) (code : Refusal) → IsRefused text.now line code → Tells result line code }
+{
+    checked(alloc, text)
+}
+
+/// The same, by what is told alone.
+fn checked(alloc: Global, text: &[u8]) -> Result<Program, CheckFault>
+    ensures accepted { IfOk result (λ program. IsAccepted text.now program) }
+    ensures only { (program : Program) → IsAccepted text.now program →
+        MatchResult result (λ other. other ≡ program) (λ e. e ≡ CheckFault.Memory) }
     ensures refused { IfErr result (λ e. Explains text.now e) }
 {
     match parse(alloc, text) {

@@ -1,5 +1,5 @@
 -- The first faulty item has its line.
-use Rattle.std.proofs.Common.{rules, ◌≡◌, ◌<◌, ◌∙◌, ap, subst, sym, length, Some, List, ℕ}
+use Rattle.std.proofs.Common.{◌≡◌, ◌<◌, subst, sym, length, Some, List, ℕ}
 use Rattle.std.specs.Prelude.{slice_get}
 use Rattle.ext_mean.specs.Typing.{type_fault}
 use Rattle.ext_types.specs.Refusals.{Explains}
