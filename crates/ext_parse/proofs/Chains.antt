@@ -1,17 +1,16 @@
 -- Operators between operands, and `!`.
-use Rattle.std.proofs.Common.{◌≡◌, ◌∙◌, ap, refl, sym, arith, ℕ, ◌+◌, ◌<◌, ◌≤◌, ◌&&◌, Bool, true, false, List, [], ◌∷◌, ◌++◌, Option, Some, None, nat_le, cond}
+use Rattle.std.proofs.Common.{◌≡◌, ◌∙◌, ap, refl, sym, ℕ, Bool, true, false, Option, Some, None, nat_le, cond}
 use Rattle.ext_mean.specs.declared.codes.SyntaxCode.TheVariants as syntax
 use Rattle.ext_mean.specs.declared.expr.BinOp.{BinOp}
 use Rattle.ext_mean.specs.declared.expr.Expr.{Expr}
 use Rattle.ext_mean.specs.declared.expr.Expr.TheVariants as expr
-use Rattle.ext_mean.specs.declared.token.Placed.{Placed}
 use Rattle.ext_mean.specs.declared.token.Token.{Token}
 use Rattle.ext_mean.specs.declared.token.Token.TheVariants as token
 use Rattle.ext_grammar.specs.Coming.{Level, disjoining, conjoining, comparing, adding, multiplying, level_of, is_level, AroundExpr, chain, right, negated, Coming, unary, primary, behind, side, Move, on_token, operates, operator_of, on_behind, on_chain}
-use Rattle.ext_grammar.specs.Reading.{Counted, Ending, Answer, Met, goes, stops, met, met_by}
+use Rattle.ext_grammar.specs.Reading.{Counted, goes, stops, met, met_by}
 use Rattle.ext_parse.specs.declared.level.Level as code
 use Rattle.ext_parse.specs.declared.level.Level.TheVariants as level
-use Rattle.ext_parse.specs.Readers.{Stand, left, next, first_of, advanced, with_operator, refusal}
+use Rattle.ext_parse.specs.Readers.{Stand, left, next, advanced, with_operator, refusal}
 use Rattle.ext_parse.specs.Levels.{at_level, operator_at, of_level, tighter_than, around_side}
 use Rattle.ext_parse.proofs.Steps.{operating, full, alike, alike-moves, with_one}
 

@@ -1,5 +1,5 @@
 -- Where a mark is to come and no other token.
-use Rattle.std.proofs.Common.{◌≡◌, refl, sym, ap, ◌∙◌, ℕ, Bool, true, false, List, [], Option, Some, None, cond}
+use Rattle.std.proofs.Common.{◌≡◌, refl, ap, ◌∙◌, ℕ, Bool, true, false, Option, Some, None, cond}
 use Rattle.ext_mean.specs.declared.token.Mark.{Mark}
 use Rattle.ext_mean.specs.declared.token.Mark.TheVariants as mark
 use Rattle.ext_mean.specs.declared.token.Token.{Token}

@@ -1,5 +1,5 @@
 -- Where a name or a kind is to come.
-use Rattle.std.proofs.Common.{◌≡◌, ◌∙◌, ap, refl, sym, arith, ℕ, ◌+◌, ◌&&◌, ◌||◌, Bool, true, false, List, [], ◌∷◌, ◌++◌, Option, Some, None, nat_le, cond}
+use Rattle.std.proofs.Common.{◌≡◌, ◌∙◌, ap, refl, sym, ℕ, Bool, true, false, List, [], ◌∷◌, ◌++◌, Option, Some, None, nat_le, cond}
 use Rattle.ext_mean.specs.declared.codes.SyntaxCode.TheVariants as code
 use Rattle.ext_mean.specs.declared.expr.Expr.TheVariants as expr
 use Rattle.ext_mean.specs.declared.statement.Kind.{Kind}
@@ -12,9 +12,9 @@ use Rattle.ext_mean.specs.declared.token.Word.TheVariants as word
 use Rattle.ext_mean.specs.declared.tree.Function.{Function}
 use Rattle.ext_mean.specs.declared.tree.Param.{Param}
 use Rattle.ext_mean.specs.Grammar.{Writing}
-use Rattle.ext_mean.specs.Wording.{naming, kind_word}
-use Rattle.ext_grammar.specs.Coming.{AroundExpr, AroundStatement, Looking, Coming, behind, expression, fixed, view_name, written_name, write_place, put_name, semicolon, function_name, first_parameter, let_name, let_kind, value, some_name, some_block, braces, parameter, parameter_kind, behind_parameter, result_kind, function_body, Move, stays, names, on_token, on_some, name_of, kind_of}
-use Rattle.ext_grammar.specs.Reading.{Counted, Met, goes, stops, met}
+use Rattle.ext_mean.specs.Wording.{kind_word}
+use Rattle.ext_grammar.specs.Coming.{AroundExpr, AroundStatement, Looking, behind, expression, fixed, view_name, written_name, write_place, put_name, semicolon, function_name, first_parameter, let_name, let_kind, value, some_name, some_block, braces, parameter, parameter_kind, behind_parameter, result_kind, function_body, Move, stays, names, on_some, name_of, kind_of}
+use Rattle.ext_grammar.specs.Reading.{Counted, goes, stops, met}
 use Rattle.ext_parse.specs.Readers.{Stand, left, next, advanced, with_local, refusal, crowding, name_at, kind_at, param_of}
 use Rattle.ext_parse.proofs.Steps.{quiet, naming_one, refuses, too_many, kept, with_name}
 

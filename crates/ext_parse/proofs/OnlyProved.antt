@@ -1,14 +1,11 @@
 -- The tokens of a text that spells a program are all that were scanned, and so the program is accepted.
-use Rattle.std.proofs.Common.{◌≡◌, ◌≤◌, ◌<◌, ℕ, ◌+◌, ◌⊎◌, inl, inr, Bool, true, false, List, [], ◌∷◌, ◌++◌, length, refl, sym, subst, ap, ◌∙◌, arith, length-append}
+use Rattle.std.proofs.Common.{◌≡◌, ℕ, ◌+◌, ◌⊎◌, inl, inr, Bool, true, false, List, [], ◌∷◌, ◌++◌, length, refl, sym, subst, ap, ◌∙◌, arith, length-append}
 use Rattle.std.proofs.lemmas.Bool.Decides.{nat_tests}
 use Rattle.std.specs.Prelude.{IsTrue, ◌&&◌, ◌||◌, ◌==◌, not}
-use Rattle.ext_mean.specs.declared.codes.SyntaxCode.{SyntaxCode}
-use Rattle.ext_mean.specs.declared.codes.SyntaxCode.TheVariants as code
 use Rattle.ext_mean.specs.declared.token.Placed.{Placed}
-use Rattle.ext_mean.specs.declared.token.Token.{Token}
 use Rattle.ext_mean.specs.declared.tree.Program.{Program}
 use Rattle.ext_mean.specs.Bounds.{AreBounded, IsTooLong, IsTooDeep}
-use Rattle.ext_mean.specs.SyntaxFaults.{BreaksComment, line_behind}
+use Rattle.ext_mean.specs.SyntaxFaults.{line_behind}
 use Rattle.ext_mean.specs.Text.{SpellsAt}
 use Rattle.ext_mean.specs.Tokens.{IsGap, empty, blank, comment, Tokens, all_pass, is_blank, is_text_byte, is_comment_byte, is_within, newline, tokens_of}
 use Rattle.ext_mean.specs.Wording.{Slot, slot_tokens, program_slots}
@@ -18,7 +15,7 @@ use Rattle.ext_tokens.specs.declared.scan.Scanned.{Scanned}
 use Rattle.ext_tokens.specs.Laws.{IsFront, PassesFault}
 use Rattle.ext_tokens.specs.Scanning as scanning
 use Rattle.ext_tokens.specs.Scanning.{IsEnd, IsScanned}
-use Rattle.ext_tokens.proofs.Gaps.{IsShown, gap-whole}
+use Rattle.ext_tokens.proofs.Gaps.{gap-whole}
 use Rattle.ext_tokens.proofs.Readings.{tokens-one, none-behind-gap}
 use Rattle.ext_tokens.proofs.ReadingsAreOne.{ends-one}
 use Rattle.ext_grammar.specs.Agreement.{Make}

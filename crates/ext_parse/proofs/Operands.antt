@@ -1,14 +1,13 @@
 -- The tokens that begin an operand, and the marks between and behind operands.
-use Rattle.std.proofs.Common.{◌≡◌, ◌∙◌, ap, refl, sym, arith, ℕ, ◌+◌, Bool, true, false, List, [], ◌∷◌, ◌++◌, Option, Some, None}
+use Rattle.std.proofs.Common.{◌≡◌, ◌∙◌, ap, refl, sym, ℕ, Bool, true, false, List, Option, Some, None}
 use Rattle.ext_mean.specs.declared.expr.Expr.{Expr}
 use Rattle.ext_mean.specs.declared.expr.Expr.TheVariants as expr
 use Rattle.ext_mean.specs.declared.token.Mark.TheVariants as mark
-use Rattle.ext_mean.specs.declared.token.Mark.{Mark}
 use Rattle.ext_mean.specs.declared.token.Token.{Token}
 use Rattle.ext_mean.specs.declared.token.Token.TheVariants as token
 use Rattle.ext_mean.specs.declared.token.Word.{Word}
 use Rattle.ext_mean.specs.declared.token.Word.TheVariants as word
-use Rattle.ext_grammar.specs.Coming.{AroundExpr, Coming, primary, behind, expression, fixed, view_name, in_parentheses, Single, len, temp, Double, byte, u64, Triple, sub, alloc, single_expr, double_expr, triple_expr, only_operand, first_of_two, second_of_two, first_of_three, second_of_three, third_of_three, on_token, on_primary}
+use Rattle.ext_grammar.specs.Coming.{AroundExpr, primary, behind, expression, fixed, view_name, in_parentheses, Single, len, temp, Double, byte, u64, Triple, sub, alloc, single_expr, double_expr, triple_expr, only_operand, first_of_two, second_of_two, first_of_three, second_of_three, third_of_three, on_token}
 use Rattle.ext_parse.specs.Readers.{Stand, left, next, advanced, refusal}
 use Rattle.ext_parse.proofs.Steps.{quiet, refuses, alike}
 

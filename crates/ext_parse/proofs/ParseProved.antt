@@ -1,28 +1,24 @@
 -- What a text spells, and its first fault, by the tokens that were scanned and the answer to them.
-use Rattle.std.proofs.Common.{◌≡◌, ◌≤◌, ◌<◌, ℕ, ◌+◌, ◌⊎◌, inl, inr, Bool, true, false, List, [], ◌∷◌, ◌++◌, length, refl, sym, subst, ap, ◌∙◌, arith, length-append}
-use Rattle.std.specs.Prelude.{IsTrue, ◌&&◌}
+use Rattle.std.proofs.Common.{◌≡◌, ◌≤◌, ℕ, true, List, [], ◌∷◌, ◌++◌, length, refl, sym, subst, ap}
 use Rattle.ext_mean.specs.declared.codes.SyntaxCode.{SyntaxCode}
 use Rattle.ext_mean.specs.declared.codes.SyntaxCode.TheVariants as code
 use Rattle.ext_mean.specs.declared.token.Placed.{Placed}
 use Rattle.ext_mean.specs.declared.tree.Program.{Program}
-use Rattle.ext_mean.specs.Bounds.{AreBounded, IsTooLong, IsTooDeep}
 use Rattle.ext_mean.specs.Grammar.{Whole}
 use Rattle.ext_mean.specs.SyntaxFaults.{SyntaxFault, no_token, bad_comment, bad_token, early, HasCode, IsSoundUpTo, BreaksComment}
 use Rattle.ext_mean.specs.SyntaxFaults as has
 use Rattle.ext_mean.specs.Text.{EndsLine, SpellsAt, most_text}
-use Rattle.ext_mean.specs.Tokens.{IsGap, empty, blank, comment, Tokens, all_pass, is_blank, is_text_byte, is_comment_byte, newline, tokens_of}
-use Rattle.ext_mean.specs.Wording.{Slot, slot_tokens, program_slots, program_tokens}
+use Rattle.ext_mean.specs.Tokens.{IsGap, Tokens, tokens_of}
+use Rattle.ext_mean.specs.Wording.{program_tokens}
 use Rattle.ext_tokens.specs.declared.scan.End.{End}
 use Rattle.ext_tokens.specs.declared.scan.End.TheVariants as end
 use Rattle.ext_tokens.specs.declared.scan.Scanned.{Scanned}
-use Rattle.ext_tokens.specs.Laws.{IsFront, PassesFault}
 use Rattle.ext_tokens.specs.Scanning as scanning
 use Rattle.ext_tokens.specs.Scanning.{IsEnd, IsFaulty, IsScanned}
-use Rattle.ext_tokens.proofs.Readings.{tokens-part, tokens-one, none-behind-gap}
-use Rattle.ext_tokens.proofs.ReadingsAreOne.{ends-one}
-use Rattle.ext_grammar.specs.Agreement.{Begin, First, at_token, at_end, Make}
-use Rattle.ext_grammar.specs.Reading.{Ending, accepted, faulty, whole_answer}
-use Rattle.ext_grammar.proofs.AgreementProved.{programs-are-accepted, accepted-are-programs, faults-are-first}
+use Rattle.ext_tokens.proofs.Readings.{tokens-part}
+use Rattle.ext_grammar.specs.Agreement.{Begin, First, at_token, at_end}
+use Rattle.ext_grammar.specs.Reading.{accepted, faulty, whole_answer}
+use Rattle.ext_grammar.proofs.AgreementProved.{accepted-are-programs, faults-are-first}
 use Rattle.ext_parse.specs.Readers.{ending_of}
 
 -- where the text ends behind the tokens, only a gap is left

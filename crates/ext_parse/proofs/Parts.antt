@@ -1,23 +1,21 @@
 -- The words and marks of the arms of a read, `else`, and calls.
-use Rattle.std.proofs.Common.{◌≡◌, ◌∙◌, ap, refl, sym, arith, ℕ, ◌+◌, ◌-◌, List, [], ◌∷◌, ◌++◌, Option, Some, None, length, IsTrue}
+use Rattle.std.proofs.Common.{◌≡◌, ◌∙◌, ap, refl, sym, arith, ℕ, ◌-◌, List, [], ◌∷◌, ◌++◌, Option, Some, None, length, IsTrue}
 use Rattle.ext_mean.specs.declared.expr.Expr.{Expr}
 use Rattle.ext_mean.specs.declared.expr.Expr.TheVariants as expr
 use Rattle.ext_mean.specs.declared.statement.Block.{Block}
 use Rattle.ext_mean.specs.declared.statement.Kind.{Kind}
 use Rattle.ext_mean.specs.declared.statement.Statement.{Statement}
 use Rattle.ext_mean.specs.declared.statement.Statement.TheVariants as does
-use Rattle.ext_mean.specs.declared.token.Mark.{Mark}
 use Rattle.ext_mean.specs.declared.token.Mark.TheVariants as mark
 use Rattle.ext_mean.specs.declared.token.Placed.{Placed}
 use Rattle.ext_mean.specs.declared.token.Token.{Token}
 use Rattle.ext_mean.specs.declared.token.Token.TheVariants as token
 use Rattle.ext_mean.specs.declared.token.Word.{Word}
 use Rattle.ext_mean.specs.declared.token.Word.TheVariants as word
-use Rattle.ext_mean.specs.Derived.{block_of, write_tree}
-use Rattle.ext_mean.specs.Grammar.{Writing, set, set8, copy}
-use Rattle.ext_grammar.specs.Coming.{Coming, AroundExpr, AroundStatement, AroundBlock, in_block, if_block, else_block, while_block, some_block, none_block, Looking, get, multiget, looking_statement, fixed, behind, unary, primary, expression, level_operand, let_value, assigned, if_test, while_test, get_table, get_key, multiget_table, multiget_keys, multiget_width, write_place, write_value, del_table, del_key, answered, returned, call_argument, let_name, let_kind, value, behind_name, first_argument, written_name, put_name, some_word, some_name, none_word, arms_end, semicolon, braces, statements, last_brace, maybe_else, done, closed, name_of, on_token, on_mark, stays, ends, stands_out, Move}
-use Rattle.ext_grammar.specs.Reading.{Counted, Met, stops, met, answer}
-use Rattle.ext_parse.specs.Parts.{behind_called, is_write, written_by}
+use Rattle.ext_mean.specs.Derived.{block_of}
+use Rattle.ext_grammar.specs.Coming.{AroundStatement, AroundBlock, in_block, else_block, none_block, Looking, fixed, behind, unary, expression, level_operand, let_value, call_argument, value, behind_name, first_argument, written_name, some_word, some_name, none_word, arms_end, semicolon, braces, statements, maybe_else, done, name_of, on_token}
+use Rattle.ext_grammar.specs.Reading.{answer}
+use Rattle.ext_parse.specs.Parts.{is_write, written_by}
 use Rattle.ext_parse.specs.Readers.{Stand, left, next, first_of, behind_first, advanced, begun, going_on, refusal, name_at, remaining}
 use Rattle.ext_parse.proofs.Marks.{no-mark}
 use Rattle.ext_parse.proofs.Names.{name-token}

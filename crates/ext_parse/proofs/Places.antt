@@ -2,9 +2,7 @@
 use Rattle.std.proofs.Common.{◌≡◌, ◌∙◌, ap, refl, sym, arith, ℕ, ◌+◌, ◌<◌, ◌≤◌, ◌-◌, List, [], ◌∷◌, Option, Some, None, length, get_or, take, drop}
 use Rattle.std.proofs.lemmas.List.{take_all, append-nil}
 use Rattle.ext_mean.specs.declared.token.Placed.{Placed}
-use Rattle.ext_mean.specs.declared.token.Token.{Token}
-use Rattle.ext_grammar.specs.Reading.{Counted, Ending, Answer}
-use Rattle.ext_parse.specs.Readers.{first_of, behind_first, first_line, refused}
+use Rattle.ext_parse.specs.Readers.{first_of, behind_first, first_line}
 
 pub first-none : (placed : List Placed) → length placed < 1 → first_of placed ≡ None
 first-none [] e = refl

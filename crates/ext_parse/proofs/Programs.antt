@@ -1,5 +1,5 @@
 -- Functions, their parameters, and the end of a program.
-use Rattle.std.proofs.Common.{◌≡◌, ◌∙◌, ap, refl, sym, arith, ℕ, ◌+◌, ◌&&◌, ◌||◌, Bool, true, false, List, [], ◌∷◌, ◌++◌, Option, Some, None, nat_le, cond, length}
+use Rattle.std.proofs.Common.{◌≡◌, ◌∙◌, ap, refl, arith, ℕ, ◌+◌, ◌&&◌, ◌||◌, Bool, true, false, List, [], ◌∷◌, ◌++◌, Option, Some, None, nat_le, cond, length}
 use Rattle.ext_mean.specs.declared.codes.SyntaxCode.TheVariants as code
 use Rattle.ext_mean.specs.declared.token.Mark.TheVariants as mark
 use Rattle.ext_mean.specs.declared.token.Placed.{Placed}
@@ -9,8 +9,8 @@ use Rattle.ext_mean.specs.declared.token.Word.TheVariants as word
 use Rattle.ext_mean.specs.declared.tree.Function.{Function}
 use Rattle.ext_mean.specs.declared.tree.Param.{Param}
 use Rattle.ext_mean.specs.Wording.{is_operator}
-use Rattle.ext_grammar.specs.Coming.{Coming, fixed, functions, function_name, first_parameter, parameter, behind_parameter, result_kind, on_token, Move}
-use Rattle.ext_grammar.specs.Reading.{Counted, Ending, Answer, accepted, faulty, Met, goes, stops, met, met_by, at_end, answer, answered}
+use Rattle.ext_grammar.specs.Coming.{fixed, functions, function_name, first_parameter, parameter, behind_parameter, result_kind, on_token, Move}
+use Rattle.ext_grammar.specs.Reading.{Counted, Ending, accepted, faulty, goes, stops, met_by, at_end, answer, answered}
 use Rattle.ext_parse.specs.Ends.{ends, ends_there, may_follow, program_of}
 use Rattle.ext_parse.specs.Readers.{Stand, left, next, first_of, advanced, begun, with_function, refusal, refused, crowding}
 use Rattle.ext_parse.proofs.Steps.{quiet, founding, too_many, alike-moves, started}

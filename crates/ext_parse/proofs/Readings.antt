@@ -1,5 +1,5 @@
 -- What a result says of a text whose tokens were scanned.
-use Rattle.std.proofs.Common.{◌≡◌, ◌≤◌, sym, subst, ap, ◌∙◌, List, [], ℕ, length, refl}
+use Rattle.std.proofs.Common.{◌≡◌, ◌≤◌, sym, ap, ◌∙◌, List, [], ℕ, length, refl}
 use Rattle.std.specs.Prelude.{IfOk, IfErr, MatchResult, Result, Ok, Err}
 use Rattle.ext_mean.specs.declared.tree.Program.{Program}
 use Rattle.ext_mean.specs.Text.{EndsLine, SpellsAt, most_text}

@@ -1,8 +1,6 @@
 -- The first token of a statement, the marks that end its parts, and the words between them.
-use Rattle.std.proofs.Common.{◌≡◌, ◌∙◌, ap, refl, sym, arith, ℕ, ◌+◌, ◌&&◌, ◌||◌, Bool, true, false, List, [], ◌∷◌, ◌++◌, Option, Some, None, nat_le, cond}
+use Rattle.std.proofs.Common.{◌≡◌, ◌∙◌, ap, refl, sym, ℕ, Bool, true, false, List, [], ◌∷◌, ◌++◌, Option, Some, None}
 use Rattle.ext_mean.specs.declared.expr.Expr.{Expr}
-use Rattle.ext_mean.specs.declared.expr.Expr.TheVariants as expr
-use Rattle.ext_mean.specs.declared.statement.Block.{Block}
 use Rattle.ext_mean.specs.declared.statement.Kind.{Kind}
 use Rattle.ext_mean.specs.declared.statement.Statement.{Statement}
 use Rattle.ext_mean.specs.declared.statement.Statement.TheVariants as does
@@ -14,12 +12,10 @@ use Rattle.ext_mean.specs.declared.token.Word.{Word}
 use Rattle.ext_mean.specs.declared.token.Word.TheVariants as word
 use Rattle.ext_mean.specs.Derived.{block_of, write_tree}
 use Rattle.ext_mean.specs.Grammar.{Writing, set, set8, copy}
-use Rattle.ext_grammar.specs.Coming.{Coming, AroundExpr, AroundStatement, AroundBlock, in_block, if_block, else_block, while_block, some_block, none_block, Looking, get, multiget, looking_statement, fixed, behind, unary, primary, expression, level_operand, let_value, assigned, if_test, while_test, get_table, get_key, multiget_table, multiget_keys, multiget_width, write_place, write_value, del_table, del_key, answered, returned, call_argument, let_name, let_kind, value, behind_name, first_argument, written_name, put_name, some_word, some_name, none_word, arms_end, semicolon, braces, statements, last_brace, maybe_else, done, closed, on_token, on_mark, stays, ends, stands_out, Move}
-use Rattle.ext_grammar.specs.Reading.{Counted, Met, goes, stops, met}
-use Rattle.ext_parse.specs.Readers.{Stand, left, next, advanced, begun, going_on, refusal, name_at}
+use Rattle.ext_grammar.specs.Coming.{AroundStatement, AroundBlock, in_block, if_block, while_block, get, multiget, fixed, behind, expression, let_value, assigned, if_test, while_test, get_table, get_key, multiget_table, multiget_keys, multiget_width, write_place, write_value, del_table, del_key, answered, returned, let_name, written_name, put_name, some_word, semicolon, braces, statements, last_brace, done, closed, on_token}
+use Rattle.ext_parse.specs.Readers.{Stand, left, next, advanced, begun, going_on, refusal}
 use Rattle.ext_parse.proofs.Marks.{no-mark}
-use Rattle.ext_parse.proofs.Names.{name-token}
-use Rattle.ext_parse.proofs.Steps.{quiet, starting, ending_one, refuses, alike, alike-at, alike-moves, kept}
+use Rattle.ext_parse.proofs.Steps.{starting, ending_one, refuses, alike}
 
 pub starts-assign : (known : List Statement) (around : AroundBlock) (name : List ℕ) (there : Stand) → next there ≡ Some (token.Name name) → left (statements known around) there ≡ left (fixed mark.Assign (expression (assigned name (in_block known around)))) (advanced (begun there))
 starts-assign known around name there e = starting (statements known around) (fixed mark.Assign (expression (assigned name (in_block known around)))) (token.Name name) there (λ line. refl) e

@@ -1,16 +1,12 @@
 -- One token on: what the answer to the tokens left is, by the next one.
-use Rattle.std.proofs.Common.{◌≡◌, ◌∙◌, ap, refl, sym, subst, arith, ℕ, ◌+◌, ◌<◌, ◌≤◌, ◌&&◌, ◌||◌, Bool, true, false, List, [], ◌∷◌, ◌++◌, Option, Some, None, length, nat_le, cond}
+use Rattle.std.proofs.Common.{◌≡◌, ◌∙◌, ap, refl, sym, subst, arith, ℕ, ◌+◌, ◌&&◌, Bool, true, false, List, [], ◌∷◌, ◌++◌, Option, Some, None, length, nat_le, cond}
 use Rattle.std.proofs.lemmas.List.{append-nil}
-use Rattle.ext_mean.specs.declared.codes.SyntaxCode.{SyntaxCode}
 use Rattle.ext_mean.specs.declared.codes.SyntaxCode.TheVariants as code
 use Rattle.ext_mean.specs.declared.token.Placed.{Placed}
 use Rattle.ext_mean.specs.declared.token.Token.{Token}
-use Rattle.ext_mean.specs.declared.token.Token.TheVariants as token
-use Rattle.ext_mean.specs.Bounds.{functions_with, locals_with}
-use Rattle.ext_mean.specs.Text.{line_if_begins}
-use Rattle.ext_mean.specs.Wording.{Standing, is_operator}
+use Rattle.ext_mean.specs.Wording.{is_operator}
 use Rattle.ext_grammar.specs.Coming.{Coming, Move, on_token}
-use Rattle.ext_grammar.specs.Reading.{Counted, Ending, Answer, faulty, Met, goes, stops, met, met_by, open_operators, at_end, answer, answered, is_full_of_functions, is_full_of_locals}
+use Rattle.ext_grammar.specs.Reading.{Counted, Ending, faulty, Met, goes, stops, met, met_by, open_operators, at_end, answer, answered}
 use Rattle.ext_parse.specs.Readers.{Stand, left, next, first_of, behind_first, first_line, advanced, going_on, with_operator, with_local, with_function, begun, refusal, refused, crowding, crowded, remaining}
 
 -- the answer to the tokens that are left, where this one is the next

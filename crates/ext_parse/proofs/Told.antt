@@ -1,5 +1,5 @@
 -- What is told of a text that has a fault.
-use Rattle.std.proofs.Common.{◌≡◌, ℕ, List}
+use Rattle.std.proofs.Common.{ℕ, List}
 use Rattle.std.specs.Prelude.{IfOk, IfErr, Result, Ok, Err}
 use Rattle.ext_mean.specs.declared.codes.SyntaxCode.{SyntaxCode}
 use Rattle.ext_mean.specs.SyntaxFaults.{SyntaxFault}

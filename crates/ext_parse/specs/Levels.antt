@@ -1,5 +1,5 @@
 -- The levels of operators as the code names them.
-use Rattle.std.specs.Prelude.{ℕ, Bool, Option, Some, None, if◌then◌else◌}
+use Rattle.std.specs.Prelude.{ℕ, Option, Some, None, if◌then◌else◌}
 use Rattle.ext_mean.specs.declared.expr.BinOp.{BinOp}
 use Rattle.ext_mean.specs.declared.expr.Expr.{Expr}
 use Rattle.ext_mean.specs.declared.token.Token.{Token}

@@ -1,7 +1,5 @@
 -- What a text of whole lines spells, and its first fault, by the answer to its tokens.
-use Rattle.std.proofs.Common.{◌≡◌, ◌≤◌, sym, subst, ap, ◌∙◌, List, ℕ, length, refl}
-use Rattle.std.specs.Prelude.{IfOk, IfErr, MatchResult, Result, Ok, Err}
-use Rattle.ext_mean.specs.declared.tree.Program.{Program}
+use Rattle.std.proofs.Common.{ap}
 use Rattle.ext_grammar.specs.Reading.{whole_answer}
 use Rattle.ext_parse.specs.Readers.{ending_of}
 use Rattle.ext_parse.proofs.Readings.{if-found, if-only, if-fault}

@@ -1,5 +1,5 @@
 -- The faults of a text that is too long, that is empty, or that does not end its last line.
-use Rattle.std.proofs.Common.{rules, true, false, ◌≡◌, ◌≤◌, ◌<◌, sym, subst, ap, ◌∙◌, ◌+◌, List, ℕ, length, arith, [], ◌∷◌, refl}
+use Rattle.std.proofs.Common.{true, false, ◌≡◌, ◌≤◌, ◌<◌, sym, subst, ◌+◌, length, arith}
 use Rattle.std.proofs.lemmas.Bool.Decides.{nat_tests}
 use Rattle.ext_mean.specs.SyntaxFaults.{large, empty, unended}
 use Rattle.ext_parse.specs.Faults.{Explains}

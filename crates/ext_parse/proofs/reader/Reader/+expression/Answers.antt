@@ -1,5 +1,5 @@
 -- No other word begins an operand.
-use Rattle.std.proofs.Common.{◌≡◌, ◌∙◌, ap, sym}
+use Rattle.std.proofs.Common.{◌∙◌, ap, sym}
 use Rattle.ext_parse.proofs.Operands.{begins-none, no-word, may_begin}
 use Rattle.ext_parse.proofs.reader.Reader.+expression.Goals as goal
 

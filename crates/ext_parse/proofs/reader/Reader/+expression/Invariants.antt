@@ -1,5 +1,5 @@
 -- The tokens that are left, and then the levels of the grammar from the top.
-use Rattle.std.proofs.Common.{◌≡◌, ◌<◌, ℕ, ◌+◌, ◌*◌}
+use Rattle.std.proofs.Common.{◌≡◌, ◌<◌, ◌+◌, ◌*◌}
 use Rattle.ext_grammar.specs.Coming.{AroundExpr, unary, behind, side, chain}
 use Rattle.ext_parse.specs.Levels.{of_level, levels_below}
 use Rattle.ext_parse.specs.Readers.{stand, left, remaining}

@@ -1,5 +1,5 @@
 -- No other word begins a statement.
-use Rattle.std.proofs.Common.{◌≡◌, ◌∙◌, ap, sym}
+use Rattle.std.proofs.Common.{◌∙◌, ap, sym}
 use Rattle.ext_parse.proofs.Statements.{statements-refused, no-word-in-block, may_stand}
 use Rattle.ext_parse.proofs.reader.Reader.+statement.Goals as goal
 

@@ -1,5 +1,5 @@
 -- The tokens that are left, and then what leads to the next block.
-use Rattle.std.proofs.Common.{◌≡◌, ◌≤◌, ◌<◌, ℕ, ◌+◌, ◌*◌}
+use Rattle.std.proofs.Common.{◌≡◌, ◌<◌, ◌+◌, ◌*◌}
 use Rattle.ext_grammar.specs.Coming.{AroundBlock, braces, statements}
 use Rattle.ext_parse.specs.Readers.{stand, left, remaining}
 use Rattle.ext_parse.proofs.reader.Reader.+statement.Given as goal
