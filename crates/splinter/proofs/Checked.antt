@@ -1,7 +1,7 @@
 -- What a check leaves, by what is to be written and what was.
 use Rattle.std.specs.Prelude.{IfSome}
 use Rattle.std.proofs.lemmas.Fmt.{decimal_digit}
-use Rattle.std.proofs.Common.{◌≡◌, ◌<◌, ℕ, List, [], ◌∷◌, ◌++◌, ap, codes, Option, Some, None, length, sym, refl, subst, inl, inr, arith}
+use Rattle.std.proofs.Common.{◌≡◌, ◌<◌, ℕ, List, [], ◌∷◌, ◌++◌, ap, codes, Option, Some, None, length, sym, subst, inl, inr, arith}
 use Rattle.sp_outside.specs.Reading.{IsLongerInput, IsWholeInput}
 use Rattle.ext_mean.specs.declared.codes.SyntaxCode.TheVariants as code
 use Rattle.ext_mean.specs.declared.refusal.Refusal.TheVariants as refusal
@@ -9,7 +9,7 @@ use Rattle.ext_mean.specs.SyntaxFaults.{large}
 use Rattle.ext_check.specs.Checking.{by_syntax}
 use Rattle.splinter.specs.declared.status.Status.{Status}
 use Rattle.splinter.specs.declared.status.Status.TheVariants as status
-use Rattle.splinter.specs.Checks.{Checks, IsAcceptance, IsRefusal, IsVerdict, refused_line}
+use Rattle.splinter.specs.Checks.{Checks, IsRefusal, IsVerdict, refused_line}
 use Rattle.splinter.specs.Running.{WritesText}
 
 -- a verdict that was written, of an input of which nothing is left
