@@ -69,3 +69,21 @@ fn frames_before_a_length_too_long_are_given(rt: HostRuntime) -> Result<(), Fail
     assert_eq!(rt; framer.feed(&[]).err(), Some(over));
     Ok(())
 }
+
+/// A framer that moved its pending bytes at each feed would not end in time.
+#[test]
+fn a_frame_of_a_million_bytes_comes_whole_a_byte_at_a_time(rt: HostRuntime) -> Result<(), Fail> {
+    let mut framer = Framer::new(rt.alloc());
+    let mut found = framer.feed(&[0, 0x0f, 0x42, 0x40])?.len();
+    for _ in 1..1_000_000 {
+        found = found.max(framer.feed(&[7])?.len());
+    }
+    assert_eq!(rt; found, 0);
+    assert_eq!(rt; framer.pending(), 1_000_003);
+    let bodies = framer.feed(&[8])?;
+    assert_eq!(rt; bodies.len(), 1);
+    for body in &bodies {
+        assert_eq!(rt; body.len(), 1_000_000);
+    }
+    Ok(())
+}

@@ -1,53 +1,103 @@
 use super::*;
 
-#[test]
-fn a_request_is_bad_where_nothing_of_its_range_can_follow(rt: HostRuntime) {
-    let alloc = rt.alloc();
-    // No kind.
-    bad_request(&rt, alloc, &[], 0);
-    bad_request(&rt, alloc, &[9, 0], 0);
-    // A text of 0, of 16,385 and of at least 16,640 bytes.
-    bad_request(&rt, alloc, &[2, 0, 0, 97], 2);
-    bad_request(&rt, alloc, &[2, 64, 1, 97], 2);
-    bad_request(&rt, alloc, &[2, 65, 0], 1);
-    // A batch of 65 calls, and of at least 256.
-    bad_request(&rt, alloc, &[3, 0, 65], 2);
-    bad_request(&rt, alloc, &[3, 1, 0], 1);
-    // A key of 0 and of 65 bytes.
-    bad_request(&rt, alloc, &[6, 0, 0, 0, 5, 0, 107], 5);
-    bad_request(&rt, alloc, &[6, 0, 0, 0, 5, 65, 107], 5);
-    // A value of 4,097 bytes.
-    bad_request(&rt, alloc, &[6, 0, 0, 0, 5, 1, 107, 16, 1], 8);
-}
+/// Bodies that are no request, and the number of their first bytes that begin one.
+const REQUESTS: &str = "\
+00 => 0
+09 00 => 0
+41 00 => 0
+02 0000 61 => 2
+02 4001 61 => 2
+02 4100 => 1
+03 0000 => 2
+03 0041 => 2
+03 0100 => 1
+03 0001 00000001 0000000000000002 00000003 00000064 02 0001 6b => 23
+03 0001 00000001 0000000000000002 00000003 00000064 00 0401 61 => 25
+03 0001 00000001 0000000000000002 00000003 00000064 00 0500 => 24
+04 00000001 0000000000000002 00000005 00 6b => 17
+04 00000001 0000000000000002 00000005 41 6b => 17
+05 00000001 0000000000000002 00 0000000000000003 1001 => 23
+05 00000001 0000000000000002 00 0000000000000003 1100 => 22
+05 00000001 0000000000000002 01 00 00 => 14
+05 00000001 0000000000000002 01 06 00 => 14
+05 00000001 0000000000000002 03 00 => 13
+05 00000001 0000000000000002 02 01 00000005 00 6b => 19
+05 00000001 0000000000000002 02 01 00000005 01 6b 02 => 21
+05 00000001 0000000000000002 02 01 00000005 01 6b 01 1001 => 23
+06 00000005 00 6b => 5
+06 00000005 41 6b => 5
+06 00000005 01 6b 1001 76 => 8
+06 00000005 01 6b 1100 => 7";
+
+/// Bodies that are no answer. The tables of a Welcome here are 5 and 5, 256 and less, and one that leaves
+/// no room for another.
+const ANSWERS: &str = "\
+40 => 0
+49 00 => 0
+01 00000001 0000000000000007 => 0
+41 41 00 => 1
+41 01 00000005 00 => 6
+41 01 00000005 03 => 6
+41 02 00000005 01 00000005 01 => 10
+41 02 00000100 01 00000009 01 => 9
+41 02 ffffffff 01 => 5
+42 01 00000002 00 => 6
+42 01 00000002 11 => 6
+42 04 => 1
+43 0000 => 2
+43 0041 => 2
+43 0100 => 1
+43 0001 03 00000040 000003e8 0001 00000005 00 6b => 18
+43 0001 03 00000040 000003e8 0001 00000005 01 6b 0000000000000000 0000000000000002 02 => 36
+43 0001 0a 00000005 => 3
+43 0001 0b 01 => 3
+43 0001 0c => 3
+43 0001 0d => 3
+43 0001 0e => 3
+43 0002 06 0d => 4
+44 00 0000000000000001 0000000000000002 02 => 18
+44 05 => 1
+45 00 0000000000000004 01 00 => 11
+45 00 0000000000000004 01 06 => 11
+45 00 0000000000000004 03 => 10
+45 02 00000005 41 6b => 6
+45 03 => 1
+45 05 0000000000000007 => 1
+45 06 => 1
+45 07 => 1
+45 08 => 1
+45 0b 00 => 2
+45 0b 04 => 2
+45 0e => 1
+46 04 => 1
+47 00 0000 => 3
+47 00 4001 61 => 3
+47 00 4100 => 2
+47 02 => 1
+47 04 => 1
+48 00 => 1
+48 06 => 1";
 
 #[test]
-fn flags_and_traps_are_bad_where_they_stand(rt: HostRuntime) {
+fn a_body_is_bad_where_no_message_goes_on(rt: HostRuntime) -> Result<(), Fail> {
     let alloc = rt.alloc();
-    let flag = [
-        3, 0, 1, 0, 0, 0, 1, 0, 0, 0, 0, 0, 0, 0, 1, 0, 0, 0, 0, 0, 0, 0, 100, 2, 0, 1, 107,
-    ];
-    bad_request(&rt, alloc, &flag, 23);
-    let trap = [5, 0, 0, 0, 1, 0, 0, 0, 0, 0, 0, 0, 2, 1, 0];
-    bad_request(&rt, alloc, &trap, 14);
-    let trap = [5, 0, 0, 0, 1, 0, 0, 0, 0, 0, 0, 0, 2, 1, 6];
-    bad_request(&rt, alloc, &trap, 14);
-}
-
-#[test]
-fn an_answer_is_bad_where_nothing_of_its_range_can_follow(rt: HostRuntime) {
-    let alloc = rt.alloc();
-    // Tables that do not increase: 5 and 5, 256 and less, and one that leaves no room for another.
-    bad_answer(&rt, alloc, &[65, 2, 0, 0, 0, 5, 1, 0, 0, 0, 5, 1], 10);
-    bad_answer(&rt, alloc, &[65, 2, 0, 0, 1, 0, 1, 0, 0, 0, 9, 1], 9);
-    bad_answer(&rt, alloc, &[65, 2, 255, 255, 255, 255, 1], 5);
-    // 65 rights, and a level of 0.
-    bad_answer(&rt, alloc, &[65, 65, 0], 1);
-    bad_answer(&rt, alloc, &[65, 1, 0, 0, 0, 5, 0], 6);
-    // A text's tag of 2, an item of a parked call in a batch, and one of a batch for a parked call.
-    bad_answer(&rt, alloc, &[71, 2], 1);
-    bad_answer(&rt, alloc, &[67, 0, 1, 10], 3);
-    bad_answer(&rt, alloc, &[69, 3], 1);
-    // A shape of 4, and a fault of 0.
-    bad_answer(&rt, alloc, &[69, 11, 4], 2);
-    bad_answer(&rt, alloc, &[72, 0], 1);
+    for case in REQUESTS.lines() {
+        let (words, at) = parts(case)?;
+        bad_request(
+            &rt,
+            alloc,
+            bytes_of(alloc, words)?.as_slice(),
+            at.parse::<u32>()?,
+        );
+    }
+    for case in ANSWERS.lines() {
+        let (words, at) = parts(case)?;
+        bad_answer(
+            &rt,
+            alloc,
+            bytes_of(alloc, words)?.as_slice(),
+            at.parse::<u32>()?,
+        );
+    }
+    Ok(())
 }
