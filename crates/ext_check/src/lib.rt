@@ -6,3 +6,6 @@ mod fault;
 
 pub use check::check_text;
 pub use fault::CheckFault;
+
+#[cfg(test)]
+mod tests;
