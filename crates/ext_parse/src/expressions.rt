@@ -3,9 +3,9 @@ ghost use Rattle.ext_mean.specs.declared.expr.Expr.{Expr};
 ghost use Rattle.ext_mean.specs.declared.expr.Expr.TheVariants as expr;
 ghost use Rattle.ext_mean.specs.declared.token.Mark.TheVariants as mark;
 ghost use Rattle.ext_mean.specs.declared.token.Token.TheVariants as token;
-ghost use Rattle.ext_grammar.specs.Coming.{AroundExpr, behind, unary, primary, chain, side, expression, fixed, view_name, Single, Double, Triple, sub, alloc, single_expr, double_expr, only_operand, first_of_two, first_of_three, third_of_three};
+ghost use Rattle.ext_grammar.specs.Coming.{AroundExpr, behind, unary, primary, chain, side, expression, fixed, view_name, Single, Double, Triple, byte, u64, sub, alloc, single_expr, double_expr, only_operand, first_of_two, first_of_three, third_of_three};
 ghost use Rattle.ext_parse.specs.Levels.{of_level};
-ghost use Rattle.ext_parse.specs.Readers.{stand, left, next, remaining, Reads};
+ghost use Rattle.ext_parse.specs.Readers.{stand, left, next, advanced, remaining, Reads};
 
 use crate::fault::ParseFault;
 use crate::level::Level;
@@ -128,14 +128,8 @@ impl Reader<'_> {
         ensures shorter { OnOk result (remaining (stand self.new) < remaining (stand self.old)) }
     {
         match word {
-            Word::True => {
-                self.advance();
-                Ok(Expr::Truth(true))
-            }
-            Word::False => {
-                self.advance();
-                Ok(Expr::Truth(false))
-            }
+            Word::True => Ok(self.truth(true)),
+            Word::False => Ok(self.truth(false)),
             Word::Args => {
                 self.advance();
                 self.args()
@@ -154,13 +148,11 @@ impl Reader<'_> {
             }
             Word::Byte => {
                 self.advance();
-                let (bytes, place) = self.two_operands()?;
-                Ok(Expr::Byte(bytes, place))
+                self.byte()
             }
             Word::U64 => {
                 self.advance();
-                let (bytes, place) = self.two_operands()?;
-                Ok(Expr::Word(bytes, place))
+                self.u64_of()
             }
             Word::Sub => {
                 self.advance();
@@ -172,6 +164,15 @@ impl Reader<'_> {
             }
             _ => Err(self.refuse()),
         }
+    }
+
+    /// The value of `true` or `false`, which comes next.
+    fn truth(&mut self, value: bool) -> Expr
+        ensures value { result ≡ expr.Truth value }
+        ensures behind { stand self.new ≡ advanced (stand self.old) }
+    {
+        self.advance();
+        Expr::Truth(value)
     }
 
     /// `"(" ")"` behind `args`.
@@ -230,6 +231,30 @@ impl Reader<'_> {
             Boxed::new(self.alloc, first)?,
             Boxed::new(self.alloc, second)?,
         ))
+    }
+
+    /// `"(" expr "," expr ")"` behind `byte`.
+    #[cycle(expression)]
+    #[tactic(auto, unfolding(crate::specs::Readers::answer_for), using(crate::proofs::Operands::operand_ends))]
+    fn byte(&mut self) -> Result<Expr, ParseFault>
+        ensures reads { (around : AroundExpr) → Reads result (λ found. left (behind found around) (stand self.new))
+            (left (fixed mark.Open (expression (first_of_two byte around))) (stand self.old)) }
+        ensures shorter { OnOk result (remaining (stand self.new) < remaining (stand self.old)) }
+    {
+        let (bytes, place) = self.two_operands()?;
+        Ok(Expr::Byte(bytes, place))
+    }
+
+    /// `"(" expr "," expr ")"` behind `u64`.
+    #[cycle(expression)]
+    #[tactic(auto, unfolding(crate::specs::Readers::answer_for), using(crate::proofs::Operands::operand_ends))]
+    fn u64_of(&mut self) -> Result<Expr, ParseFault>
+        ensures reads { (around : AroundExpr) → Reads result (λ found. left (behind found around) (stand self.new))
+            (left (fixed mark.Open (expression (first_of_two u64 around))) (stand self.old)) }
+        ensures shorter { OnOk result (remaining (stand self.new) < remaining (stand self.old)) }
+    {
+        let (bytes, place) = self.two_operands()?;
+        Ok(Expr::Word(bytes, place))
     }
 
     /// `"(" expr "," expr ","`, the first two of three operands.

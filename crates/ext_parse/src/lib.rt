@@ -1,4 +1,5 @@
-//! The parser of extensions: the tree of a text with the lines of its items, or its first fault.
+//! The parser of extensions: the tree of a text with the lines of its items, or its first fault; and the
+//! printer of `ext_print`, which gives the canonical text of a tree.
 #![tactic(auto)]
 
 mod blocks;
@@ -14,6 +15,7 @@ mod plain;
 mod reader;
 mod reading;
 
+pub use ext_print::print;
 pub use fault::ParseFault;
 pub use laws::{faulty_texts_spell_none, texts_have_one_fault, texts_spell_one_program};
 pub use parsed::Parsed;

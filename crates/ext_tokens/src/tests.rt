@@ -1,54 +1,81 @@
 use super::*;
-use ext_mean::{BinOp, Mark, Placed, SyntaxCode, Token, Word};
+use ext_mean::{Placed, Token};
 use sp_base::Memory;
 use std::alloc::{AllocError, Global};
 use std::test::Fail;
 
-/// A token without the bytes of names and strings.
-#[derive(Clone, Copy, Debug, PartialEq, Eq)]
-enum Want {
-    Word(Word),
-    Name,
-    Number(u64),
-    Str,
-    Mark(Mark),
-    Not,
-    Binary(BinOp),
+/// Adds the bytes of a notation: `~` is a newline, `$` a tab, and `^` and `?` are the first byte above
+/// the visible ones and the one behind it.
+fn push_bytes(text: &mut Vec<u8>, notation: &str) -> Result<(), AllocError> {
+    for byte in notation.as_bytes() {
+        text.push(match *byte {
+            b'~' => b'\n',
+            b'$' => b'\t',
+            b'^' => 0x7f,
+            b'?' => 0x80,
+            byte => byte,
+        })?;
+    }
+    Ok(())
 }
 
-fn want_of(token: &Token) -> Want {
+/// The text of a notation, in which `[PART@COUNT]` is a part so many times.
+fn text_of(alloc: Global, notation: &str) -> Result<Vec<u8>, Fail> {
+    let mut text = Vec::new(alloc);
+    for piece in notation.split('[') {
+        let Some((repeated, rest)) = piece.split_once(']') else {
+            push_bytes(&mut text, piece)?;
+            continue;
+        };
+        let Some((part, count)) = repeated.split_once('@') else {
+            return Err(Fail::new("no count"));
+        };
+        for _turn in 0..count.parse::<usize>()? {
+            push_bytes(&mut text, part)?;
+        }
+        push_bytes(&mut text, rest)?;
+    }
+    Ok(text)
+}
+
+/// Adds a token: a word, a mark or an operator by what the tree calls it, a name by its letters, a
+/// number, or the bytes of a byte string.
+fn push_token(text: &mut String, token: &Token) -> Result<(), Fail> {
     match token {
-        Token::Word(word) => Want::Word(*word),
-        Token::Name(_) => Want::Name,
-        Token::Number(number) => Want::Number(*number),
-        Token::Str(_) => Want::Str,
-        Token::Mark(mark) => Want::Mark(*mark),
-        Token::Not => Want::Not,
-        Token::Binary(operator) => Want::Binary(*operator),
+        Token::Word(word) => write!(text, "{word:?}")?,
+        Token::Name(name) => text.push_str(str::from_utf8(name.bytes())?)?,
+        Token::Number(number) => write!(text, "{number}")?,
+        Token::Str(items) => {
+            text.push_str("x")?;
+            for byte in items.bytes() {
+                write!(text, "{byte:02x}")?;
+            }
+        }
+        Token::Mark(mark) => write!(text, "{mark:?}")?,
+        Token::Not => text.push_str("Not")?,
+        Token::Binary(operator) => write!(text, "{operator:?}")?,
     }
+    Ok(())
 }
 
-/// The bytes of all names and strings among the tokens.
-fn bytes_of(alloc: Global, found: &[Placed]) -> Result<Vec<u8>, AllocError> {
-    let mut bytes = Vec::new(alloc);
-    for placed in found {
-        match &placed.token {
-            Token::Name(name) => bytes.extend_from_slice(name.bytes())?,
-            Token::Str(items) => bytes.extend_from_slice(items.bytes())?,
-            _ => {}
-        }
+/// The tokens in words, each behind its line.
+fn told(alloc: Global, tokens: &[Placed]) -> Result<String, Fail> {
+    let mut text = String::new(alloc);
+    for placed in tokens {
+        let line = placed.line;
+        write!(text, "{line}:")?;
+        push_token(&mut text, &placed.token)?;
+        text.push_str(" ")?;
     }
-    Ok(bytes)
+    Ok(text)
 }
 
-fn are_wanted(found: &[Placed], tokens: &[(u32, Want)]) -> bool {
-    for (at, placed) in found.iter().enumerate() {
-        match tokens.get(at) {
-            Some((line, token)) if placed.line == *line && want_of(&placed.token) == *token => {}
-            _ => return false,
-        }
+/// What stands behind the last token: the lines of the whole text, or a fault.
+fn told_end(alloc: Global, end: End) -> Result<String, Fail> {
+    match end {
+        End::Text(lines) => Ok(format!(in alloc; "end {lines}")?),
+        End::Fault(line, code) => Ok(format!(in alloc; "{line} {code:?}")?),
     }
-    found.len() == tokens.len()
 }
 
 /// The tokens of a text and its end, which no case wants where it may not be scanned.
@@ -61,156 +88,79 @@ fn scanned(alloc: Global, text: &[u8]) -> Result<Scanned, Memory> {
     scan_text(alloc, text)
 }
 
-/// A text with one part so many times, and then another.
-fn repeated(alloc: Global, part: &[u8], count: usize, end: &[u8]) -> Result<Vec<u8>, AllocError> {
-    let mut text = Vec::new(alloc);
-    for _turn in 0..count {
-        text.extend_from_slice(part)?;
+/// The two parts of a case.
+fn parts(case: &str) -> Result<(&str, &str), Fail> {
+    match case.rsplit_once(" => ") {
+        Some(parts) => Ok(parts),
+        None => Err(Fail::new("no case")),
     }
-    text.extend_from_slice(end)?;
-    Ok(text)
 }
 
+/// Texts with their tokens, up to the end or to the first fault.
+const TOKENS: &str = "\
+fn set8(set9) -> u64 {~ => 1:Fn 1:Set8 1:Open 1:set9 1:Close 1:Arrow 1:U64 1:OpenBlock end 1
+a=>b==c~= >d~ => 1:a 1:Arm 1:b 1:Equal 1:c 2:Assign 2:Greater 2:d end 2
+<=<!=!>=>-->~ => 1:LessEqual 1:Less 1:NotEqual 1:Not 1:GreaterEqual 1:Greater 1:Subtract 1:Arrow end 1
+# a \"x~~$7 0 18446744073709551615 # end = 1a~#~ => 3:7 3:0 3:18446744073709551615 end 4
+\"a # \\x0a\\xffb\"\"\"~ => 1:x612023200aff62 1:x end 1
+abcdefghijklmnopqrstuvwxyz_12345~ => 1:abcdefghijklmnopqrstuvwxyz_12345 end 1
+~# nothing~ ~ => end 3
+abcdefghijklmnopqrstuvwxyz_123456~ => 1 Long
+x~18446744073709551616~ => 1:x 2 Long
+99999999999999999999999999999999;~ => 1 Long
+18446744073709551616a~ => 1 Token
+07~ => 1 Token
+00~ => 1 Token
+1a~ => 1 Token
+1_~ => 1 Token
+1A~ => 1 Token
+len(\"\\xAA\")~ => 1:Len 1:Open 1 Token
+\"\\x0\"~ => 1 Token
+\"\\n\"~ => 1 Token
+\"abc~\"~ => 1 Token
+\"^\"~ => 1 Token
+x # a~# ^~ => 1:x 2 Token
+# a~~ ?~ => 3 Token
+a & b~ => 1:a 1 Token
+a~|b~ => 1:a 2 Token
+a B~ => 1:a 1 Token
+";
+
 #[test]
-fn the_longest_token_is_read_with_its_line(rt: HostRuntime) -> Result<(), Fail> {
-    let cases: [(&[u8], &[(u32, Want)], &[u8], u32); 7] = [
-        (
-            b"fn set8(set9) -> u64 {\n",
-            &[
-                (1, Want::Word(Word::Fn)),
-                (1, Want::Word(Word::Set8)),
-                (1, Want::Mark(Mark::Open)),
-                (1, Want::Name),
-                (1, Want::Mark(Mark::Close)),
-                (1, Want::Mark(Mark::Arrow)),
-                (1, Want::Word(Word::U64)),
-                (1, Want::Mark(Mark::OpenBlock)),
-            ],
-            b"set9",
-            1,
-        ),
-        (
-            b"a=>b==c\n= >d\n",
-            &[
-                (1, Want::Name),
-                (1, Want::Mark(Mark::Arm)),
-                (1, Want::Name),
-                (1, Want::Binary(BinOp::Equal)),
-                (1, Want::Name),
-                (2, Want::Mark(Mark::Assign)),
-                (2, Want::Binary(BinOp::Greater)),
-                (2, Want::Name),
-            ],
-            b"abcd",
-            2,
-        ),
-        (
-            b"<=<!=!>=>-->\n",
-            &[
-                (1, Want::Binary(BinOp::LessEqual)),
-                (1, Want::Binary(BinOp::Less)),
-                (1, Want::Binary(BinOp::NotEqual)),
-                (1, Want::Not),
-                (1, Want::Binary(BinOp::GreaterEqual)),
-                (1, Want::Binary(BinOp::Greater)),
-                (1, Want::Binary(BinOp::Subtract)),
-                (1, Want::Mark(Mark::Arrow)),
-            ],
-            b"",
-            1,
-        ),
-        (
-            b"# a \"x\n\n\t7 0 18446744073709551615 # end = 1a\n#\n",
-            &[
-                (3, Want::Number(7)),
-                (3, Want::Number(0)),
-                (3, Want::Number(18_446_744_073_709_551_615)),
-            ],
-            b"",
-            4,
-        ),
-        (
-            b"\"a # \\x0a\\xffb\"\"\"\n",
-            &[(1, Want::Str), (1, Want::Str)],
-            b"a # \x0a\xffb",
-            1,
-        ),
-        (
-            b"abcdefghijklmnopqrstuvwxyz_12345\n",
-            &[(1, Want::Name)],
-            b"abcdefghijklmnopqrstuvwxyz_12345",
-            1,
-        ),
-        (b"\n# nothing\n \n", &[], b"", 3),
-    ];
-    for (text, tokens, bytes, lines) in cases {
-        let found = scanned(rt.alloc(), text)?;
-        assert_eq!(rt; found.end, End::Text(lines), "at {text:?}");
-        assert!(rt; are_wanted(found.tokens.as_slice(), tokens), "at {text:?}");
-        let found_bytes = bytes_of(rt.alloc(), found.tokens.as_slice())?;
-        assert_eq!(rt; found_bytes.as_slice(), bytes, "at {text:?}");
+fn each_token_is_read_with_its_line(rt: HostRuntime) -> Result<(), Fail> {
+    let alloc = rt.alloc();
+    for case in TOKENS.lines() {
+        let (notation, wanted) = parts(case)?;
+        let text = text_of(alloc, notation)?;
+        let found = scanned(alloc, text.as_slice())?;
+        let mut all = told(alloc, found.tokens.as_slice())?;
+        all.push_str(told_end(alloc, found.end)?.as_str())?;
+        assert_eq!(rt; all.as_str(), wanted, "{notation}");
     }
     Ok(())
 }
 
-#[test]
-fn each_fault_has_its_place_and_code(rt: HostRuntime) -> Result<(), Fail> {
-    let cases: [(&[u8], usize, u32, SyntaxCode); 19] = [
-        (
-            b"abcdefghijklmnopqrstuvwxyz_123456\n",
-            0,
-            1,
-            SyntaxCode::Long,
-        ),
-        (b"x\n18446744073709551616\n", 1, 2, SyntaxCode::Long),
-        (
-            b"99999999999999999999999999999999;\n",
-            0,
-            1,
-            SyntaxCode::Long,
-        ),
-        (b"18446744073709551616a\n", 0, 1, SyntaxCode::Token),
-        (b"07\n", 0, 1, SyntaxCode::Token),
-        (b"00\n", 0, 1, SyntaxCode::Token),
-        (b"1a\n", 0, 1, SyntaxCode::Token),
-        (b"1_\n", 0, 1, SyntaxCode::Token),
-        (b"1A\n", 0, 1, SyntaxCode::Token),
-        (b"len(\"\\xAA\")\n", 2, 1, SyntaxCode::Token),
-        (b"\"\\x0\"\n", 0, 1, SyntaxCode::Token),
-        (b"\"\\n\"\n", 0, 1, SyntaxCode::Token),
-        (b"\"abc\n\"\n", 0, 1, SyntaxCode::Token),
-        (b"\"\x7f\"\n", 0, 1, SyntaxCode::Token),
-        (b"x # a\n# \x7f\n", 1, 2, SyntaxCode::Token),
-        (b"# a\n\n \x80\n", 0, 3, SyntaxCode::Token),
-        (b"a & b\n", 1, 1, SyntaxCode::Token),
-        (b"a\n|b\n", 1, 2, SyntaxCode::Token),
-        (b"a B\n", 1, 1, SyntaxCode::Token),
-    ];
-    for (text, tokens, line, code) in cases {
-        let found = scanned(rt.alloc(), text)?;
-        assert_eq!(rt; found.end, End::Fault(line, code), "at {text:?}");
-        assert_eq!(rt; found.tokens.len(), tokens, "at {text:?}");
-    }
-    Ok(())
-}
+/// Texts with open brackets, and what ends their tokens.
+const BRACKETS: &str = "\
+[(@32]~ => end 1
+[(@32]~(~ => 2 Deep
+[{@32]~ => end 1
+[{@32]~{~ => 2 Deep
+[({@16]~(~ => 2 Deep
+[(@32])({}~ => 1 Deep
+[(@32]})~({~ => end 2
+[){}@40]~ => end 1
+";
 
 #[test]
 fn the_33rd_open_bracket_is_too_deep(rt: HostRuntime) -> Result<(), Fail> {
-    let deep = End::Fault(2, SyntaxCode::Deep);
-    let cases: [(&[u8], usize, &[u8], End); 8] = [
-        (b"(", 32, b"\n", End::Text(1)),
-        (b"(", 32, b"\n(\n", deep),
-        (b"{", 32, b"\n", End::Text(1)),
-        (b"{", 32, b"\n{\n", deep),
-        (b"({", 16, b"\n(\n", deep),
-        (b"(", 32, b")({}\n", End::Fault(1, SyntaxCode::Deep)),
-        (b"(", 32, b"})\n({\n", End::Text(2)),
-        (b"){}", 40, b"\n", End::Text(1)),
-    ];
-    for (part, count, rest, end) in cases {
-        let text = repeated(rt.alloc(), part, count, rest)?;
-        let found = scanned(rt.alloc(), text.as_slice())?;
-        assert_eq!(rt; found.end, end, "{count} of {part:?}, {rest:?}");
+    let alloc = rt.alloc();
+    for case in BRACKETS.lines() {
+        let (notation, wanted) = parts(case)?;
+        let text = text_of(alloc, notation)?;
+        let found = scanned(alloc, text.as_slice())?;
+        let end = told_end(alloc, found.end)?;
+        assert_eq!(rt; end.as_str(), wanted, "{notation}");
     }
     Ok(())
 }

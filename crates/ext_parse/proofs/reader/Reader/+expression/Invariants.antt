@@ -32,6 +32,12 @@ decreases-one_operand l = 20 * remaining (stand l.self.now)
 abbrev pub decreases-two_operands : goal.decreases-two_operands
 decreases-two_operands l = 20 * remaining (stand l.self.now)
 
+abbrev pub decreases-byte : goal.decreases-byte
+decreases-byte l = 20 * remaining (stand l.self.now) + 1
+
+abbrev pub decreases-u64_of : goal.decreases-u64_of
+decreases-u64_of l = 20 * remaining (stand l.self.now) + 1
+
 abbrev pub decreases-leading_operands : goal.decreases-leading_operands
 decreases-leading_operands l = 20 * remaining (stand l.self.now)
 
