@@ -1,7 +1,7 @@
 -- What a check leaves, by what is to be written and what was.
 use Rattle.std.specs.Prelude.{IfSome}
 use Rattle.std.proofs.lemmas.Fmt.{decimal_digit}
-use Rattle.std.proofs.Common.{◌≡◌, ◌<◌, ℕ, List, [], ◌∷◌, ◌++◌, ap, codes, Option, Some, None, length, sym, refl, subst, inl, inr, arith}
+use Rattle.std.proofs.Common.{◌≡◌, ◌<◌, ℕ, List, [], ◌∷◌, ◌++◌, ap, codes, Option, Some, None, length, sym, subst, inl, inr, arith}
 use Rattle.sp_outside.specs.Reading.{IsLongerInput, IsWholeInput}
 use Rattle.ext_mean.specs.declared.codes.SyntaxCode.TheVariants as code
 use Rattle.ext_mean.specs.declared.refusal.Refusal.TheVariants as refusal
@@ -9,7 +9,7 @@ use Rattle.ext_mean.specs.SyntaxFaults.{large}
 use Rattle.ext_check.specs.Checking.{by_syntax}
 use Rattle.splinter.specs.declared.status.Status.{Status}
 use Rattle.splinter.specs.declared.status.Status.TheVariants as status
-use Rattle.splinter.specs.Checks.{Checks, IsAcceptance, IsRefusal, IsVerdict, refused_line}
+use Rattle.splinter.specs.Checks.{Checks, IsRefusal, IsVerdict, refused_line}
 use Rattle.splinter.specs.Running.{WritesText}
 
 -- a verdict that was written, of an input of which nothing is left
@@ -43,14 +43,14 @@ told-checked (Some input) left (Some there) after bytes text result stands whole
     checked result stands input text there left after whole.nothing (subst (λ (b : List ℕ). IsVerdict b stands text) whole.whole is) written
 
 -- the line of an input that is too long
-abbrev long_line : List ℕ
+abbrev pub long_line : List ℕ
 long_line = codes "line 1 Long" ++ 10 ∷ []
 
 long-line : long_line ≡ refused_line 1 (refusal.Syntax code.Long)
 long-line = ap (λ digits. codes "line " ++ (digits ++ 32 ∷ (codes "Long" ++ 10 ∷ []))) (sym (decimal_digit 1 (omega arith)))
 
 -- an input that is too long is refused at its first line
-too-long : (input : List ℕ) → 16384 < length input → IsRefusal input long_line
+pub too-long : (input : List ℕ) → 16384 < length input → IsRefusal input long_line
 too-long input more = record {
   line = 1;
   which = refusal.Syntax code.Long;
