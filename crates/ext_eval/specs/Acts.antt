@@ -1,7 +1,7 @@
 -- What statements with neither a block nor a call do behind their unit, by their operands.
-use Rattle.std.specs.Prelude.{ℕ, true, List, [], ◌∷◌, nat_lt}
+use Rattle.std.specs.Prelude.{ℕ, true, List, [], ◌∷◌, Some, nat_lt}
 use Rattle.ext_mean.specs.declared.expr.Expr.{Expr}
-use Rattle.ext_mean.specs.Work.{World, ◌>>=◌}
+use Rattle.ext_mean.specs.Work.{World, ◌>>=◌, give}
 use Rattle.ext_mean.specs.MeaningValues.{number_of, bytes_of, word_bytes}
 use Rattle.ext_mean.specs.MeaningExpressions.{evaluate, variable}
 use Rattle.ext_mean.specs.MeaningStatements.{Course, goes_on, declare, assign, overwrite, put, del, resp}
@@ -51,3 +51,9 @@ abbrev pub responds : World → Expr → Course
 responds world expression = goes_on (do
   bytes ← evaluate world expression
   resp (bytes_of bytes))
+
+-- `return expression;`
+abbrev pub returns : World → Expr → Course
+returns world expression = do
+  result ← evaluate world expression
+  give (Some result)

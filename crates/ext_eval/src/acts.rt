@@ -1,7 +1,7 @@
-ghost use Rattle.std.specs.Prelude.{◌≡◌, map, IfOk};
+ghost use Rattle.std.specs.Prelude.{map};
 ghost use Rattle.ext_mean.specs.Work.{in_order};
 ghost use Rattle.ext_mean.specs.MeaningExpressions.{evaluate};
-ghost use Rattle.ext_eval.specs.Acts.{assigns, copies, declares, deletes, puts, responds, sets, sets_word};
+ghost use Rattle.ext_eval.specs.Acts.{assigns, copies, declares, deletes, puts, responds, returns, sets, sets_word};
 ghost use Rattle.ext_eval.specs.Gives.{Gives};
 ghost use Rattle.ext_eval.specs.Worlds.{world_of};
 
@@ -134,6 +134,14 @@ pub fn responds(world: &World, state: &mut State, value: &Expr) -> Result<Option
     let value = evaluate(world, state, value)?;
     resp(world, state, bytes_of(&value))?;
     Ok(None)
+}
+
+/// `return value;`
+pub fn returns(world: &World, state: &mut State, value: &Expr) -> Result<Option<Value>, Halt>
+    ensures { Gives result state.new (returns (world_of world.now) value.now state.old) }
+{
+    let value = evaluate(world, state, value)?;
+    Ok(Some(value))
 }
 
 /// The arguments of a call, from left to right.

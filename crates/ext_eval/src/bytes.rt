@@ -1,4 +1,5 @@
-ghost use Rattle.std.specs.Prelude.{◌≡◌, ◌+◌, ◌≤◌, ◌<◌, length, take, nat_le, IfOk, ◌%◌, ◌==◌, ◌&&◌};
+ghost use Rattle.std.specs.Prelude.{◌≡◌, ◌+◌, ◌≤◌, length, nat_le, IfOk, ◌%◌, ◌==◌, ◌&&◌};
+ghost use Rattle.sp_base.specs.Limits.{IsKey};
 ghost use Rattle.ext_mean.specs.MeaningValues.{is_key, overwritten, part_of, word_of};
 
 use sp_base::{Blob, Key, Memory};
@@ -16,6 +17,19 @@ pub fn is_key(key: &[u8]) -> bool
     ensures { result ≡ is_key key.now }
 {
     1 <= key.len() && key.len() <= Key::MOST
+}
+
+/// The key of bytes that are one.
+pub fn key_of(alloc: Global, bytes: &[u8]) -> Result<Key, Memory>
+    requires { IsKey bytes.now }
+    ensures { IfOk result (λ key. key ≡ bytes.now) }
+{
+    let key = Key::of(alloc, bytes);
+    match key {
+        Ok(key) => Ok(key),
+        // Bytes that are a key have no other fault.
+        Err(_) => Err(Memory),
+    }
 }
 
 /// Whether a width of `multiget` is from 1 to 64 and divides the length of the keys.

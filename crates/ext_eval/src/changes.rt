@@ -1,4 +1,4 @@
-ghost use Rattle.std.specs.Prelude.{◌≡◌, ◌++◌, ◌∷◌, [], IfOk};
+ghost use Rattle.std.specs.Prelude.{◌≡◌, IfOk};
 ghost use Rattle.sp_base.specs.Places.{Place, same_place};
 ghost use Rattle.ext_mean.specs.MeaningValues.{changed, place_changed};
 ghost use Rattle.ext_mean.specs.MeaningStatements.{del, overwrite, put, resp, write};
@@ -6,7 +6,7 @@ ghost use Rattle.ext_eval.specs.Finding.{first_from};
 ghost use Rattle.ext_eval.specs.Gives.{Gives};
 ghost use Rattle.ext_eval.specs.Worlds.{world_of};
 
-use crate::bytes::{fits, is_key, overwritten};
+use crate::bytes::{fits, is_key, key_of, overwritten};
 use crate::halt::Halt;
 use crate::locals::{assign, variable};
 use crate::records::is_write_at;
@@ -15,7 +15,7 @@ use crate::steps::require;
 use crate::values::{buffer_of, with_bytes};
 use crate::world::World;
 use ext_mean::{Name, State, Value};
-use sp_base::{Blob, Change, Key, Memory, TableId, Trap, Write, Writes};
+use sp_base::{Blob, Change, Memory, TableId, Trap, Write, Writes};
 use std::alloc::Global;
 use std::mem;
 
@@ -96,9 +96,7 @@ pub fn del(world: &World, state: &mut State, table: u64, key: &[u8]) -> Result<(
 {
     require(state, is_key(key), Trap::Size)?;
     require(state, can_write(world.rights, table), Trap::Denied)?;
-    let Ok(key) = Key::of(world.alloc, key) else {
-        return Err(Halt::Memory);
-    };
+    let key = key_of(world.alloc, key)?;
     let table = TableId(table as u32);
     let change = Change::Del;
     write(world.alloc, state, Write { table, key, change })

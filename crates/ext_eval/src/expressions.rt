@@ -1,11 +1,10 @@
-ghost use Rattle.std.specs.Prelude.{◌≡◌, replicate, IfOk, IsTrue, ◌<◌, ◌^◌};
-ghost use Rattle.sp_base.specs.RightsList.{can_write};
+ghost use Rattle.std.specs.Prelude.{◌≡◌, replicate, IfOk};
 ghost use Rattle.ext_mean.specs.MeaningExpressions.{binary, byte_at, evaluate, expression_form, new_buffer, new_temp, sub_at, word_at};
 ghost use Rattle.ext_mean.specs.declared.expr.Expr.TheOpen.{Expr-F};
 ghost use Rattle.ext_eval.specs.Gives.{Gives};
 ghost use Rattle.ext_eval.specs.Worlds.{world_of};
 
-use crate::bytes::{fits, is_key, part_of, word_of};
+use crate::bytes::{fits, is_key, key_of, part_of, word_of};
 use crate::halt::Halt;
 use crate::locals::variable;
 use crate::operators::{decides, operate};
@@ -14,7 +13,7 @@ use crate::steps::{charge, require};
 use crate::values::{buffer_of, bytes_of, number_of, truth_of};
 use crate::world::World;
 use ext_mean::{BinOp, Buffer, Expr, State, Value};
-use sp_base::{Blob, Key, Memory, TableId, Trap};
+use sp_base::{Blob, Memory, TableId, Trap};
 use sqlite_items::Boxed;
 use std::alloc::Global;
 
@@ -82,9 +81,7 @@ fn new_buffer(
     require(state, is_key(key) && size <= MOST_BUFFER, Trap::Size)?;
     require(state, can_write(world.rights, table), Trap::Denied)?;
     charge(world, state, size as u32 / 16)?;
-    let Ok(key) = Key::of(world.alloc, key) else {
-        return Err(Halt::Memory);
-    };
+    let key = key_of(world.alloc, key)?;
     let bytes = zeros(world.alloc, size as usize)?;
     Ok(Value::Buf(Buffer {
         table: TableId(table as u32),

@@ -1,4 +1,4 @@
-ghost use Rattle.std.specs.Prelude.{◌≡◌, ◌<◌, ◌^◌, Some, IfOk};
+ghost use Rattle.std.specs.Prelude.{◌≡◌, ◌<◌, ◌^◌, IfOk};
 ghost use Rattle.std.specs.Option.{option_copied, option_map};
 ghost use Rattle.sp_base.specs.Limits.{IsKey};
 ghost use Rattle.sp_base.specs.Places.{Place, same_place};
@@ -9,13 +9,13 @@ ghost use Rattle.ext_mean.specs.MeaningStatements.{found, get, read};
 ghost use Rattle.ext_eval.specs.Gives.{Gives};
 ghost use Rattle.ext_eval.specs.Worlds.{world_of};
 
-use crate::bytes::is_key;
+use crate::bytes::{is_key, key_of};
 use crate::halt::Halt;
 use crate::rights::can_read;
 use crate::steps::{charge, require};
 use crate::world::World;
 use ext_mean::{Run, State};
-use sp_base::{Blob, Change, Key, Memory, ReadItem, TableId, Trap, Write, same_bytes};
+use sp_base::{Blob, Change, Memory, ReadItem, TableId, Trap, Write, same_bytes};
 use std::alloc::Global;
 
 /// The units of a read.
@@ -95,15 +95,12 @@ fn known_or_wanted(
     match read {
         Some(read) => Ok(share_value(world.alloc, &read.value)?),
         None => {
-            let key = Key::of(world.alloc, key);
-            match key {
-                Ok(key) => Err(Halt::Ended(Run::Wants {
-                    table: TableId(table as u32),
-                    key,
-                    used: state.used,
-                })),
-                Err(_) => Err(Halt::Memory),
-            }
+            let key = key_of(world.alloc, key)?;
+            Err(Halt::Ended(Run::Wants {
+                table: TableId(table as u32),
+                key,
+                used: state.used,
+            }))
         }
     }
 }

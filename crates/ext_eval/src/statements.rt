@@ -1,4 +1,4 @@
-ghost use Rattle.std.specs.Prelude.{◌≡◌, ◌≤◌, ◌+◌, ◌*◌, ◌/◌, ◌%◌, length, map};
+ghost use Rattle.std.specs.Prelude.{◌≡◌, ◌≤◌, ◌/◌, ◌%◌, length, map};
 ghost use Rattle.ext_mean.specs.MeaningValues.{pieces};
 ghost use Rattle.ext_mean.specs.MeaningExpressions.{evaluate};
 ghost use Rattle.ext_mean.specs.MeaningStatements.{execute, one_by_one, run_block, turns};
@@ -8,7 +8,9 @@ ghost use Rattle.ext_eval.specs.Blocks.{calls_and_declares, chooses, gets, gets_
 ghost use Rattle.ext_eval.specs.Gives.{Gives};
 ghost use Rattle.ext_eval.specs.Worlds.{calls_of, world_of};
 
-use crate::acts::{arguments, assigns, copies, declares, deletes, puts, responds, sets, sets_word};
+use crate::acts::{
+    arguments, assigns, copies, declares, deletes, puts, responds, returns, sets, sets_word,
+};
 use crate::arms::Arms;
 use crate::bytes::is_width;
 use crate::expressions::evaluate;
@@ -311,9 +313,6 @@ fn execute(world: &World, state: &mut State, statement: &Statement) -> Result<Op
         Statement::Put { name } => puts(world, state, name),
         Statement::Del { table, key } => deletes(world, state, table, key),
         Statement::Resp { value } => responds(world, state, value),
-        Statement::Return { value } => {
-            let value = evaluate(world, state, value)?;
-            Ok(Some(value))
-        }
+        Statement::Return { value } => returns(world, state, value),
     }
 }

@@ -352,7 +352,9 @@ fn a_65th_place_is_one_too_many(rt: HostRuntime) -> Result<(), Fail> {
         _ => assert!(rt; false),
     }
     let another = format!(in alloc; "{SIXTY_FOUR} del 6 'kk return 0")?;
-    expect(&rt, alloc, another.as_str(), b"", 1000, "388 trap 3")
+    expect(&rt, alloc, another.as_str(), b"", 1000, "388 trap 3")?;
+    let another = format!(in alloc; "{SIXTY_FOUR} let b buf alloc 6 'kk 0 put b return 0")?;
+    expect(&rt, alloc, another.as_str(), b"", 1000, "389 trap 3")
 }
 
 #[test]
@@ -368,7 +370,9 @@ fn limits_hold_to_the_last_byte(rt: HostRuntime) -> Result<(), Fail> {
         _ => assert!(rt; false),
     }
     let key = [b'k'; 65];
-    expect(&rt, alloc, LOOK_UP, &key, 1000, "1 trap 3")?;
+    for text in [LOOK_UP, "del 6 args return 0", "let b buf alloc 6 args 1 return 0"] {
+        expect(&rt, alloc, text, &key, 1000, "1 trap 3")?;
+    }
     match run(alloc, LOOK_UP, &key[..64], 1000)? {
         Run::Wants { used, .. } => assert_eq!(rt; used, 17),
         _ => assert!(rt; false),
@@ -377,4 +381,26 @@ fn limits_hold_to_the_last_byte(rt: HostRuntime) -> Result<(), Fail> {
     expect(&rt, alloc, wide, &key, 1000, "1 trap 5")?;
     let turning = "let i int 0 while true { = i + i 1 } return 0";
     expect(&rt, alloc, turning, b"", 100_000, "spent")
+}
+
+/// The most functions, each of which calls the one before it inside the most brackets. No proof speaks
+/// of the stack.
+#[test]
+fn the_deepest_calls_have_stack_enough(rt: HostRuntime) -> Result<(), Fail> {
+    let alloc = rt.alloc();
+    let mut text = String::from_str(alloc, "fn f0 -> int { return 1 }")?;
+    for number in 1..31u32 {
+        let before = number - 1;
+        write!(&mut text, " fn f{number} -> int {{")?;
+        for _ in 0..31u32 {
+            text.push_str(" if true {")?;
+        }
+        write!(&mut text, " call x int f{before} 0 return x")?;
+        for _ in 0..31u32 {
+            text.push_str(" } { }")?;
+        }
+        text.push_str(" return 0 }")?;
+    }
+    text.push_str(" call x int f30 0 return x")?;
+    expect(&rt, alloc, text.as_str(), b"", 1000, "993 done 1 x")
 }

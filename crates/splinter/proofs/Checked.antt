@@ -43,14 +43,14 @@ told-checked (Some input) left (Some there) after bytes text result stands whole
     checked result stands input text there left after whole.nothing (subst (λ (b : List ℕ). IsVerdict b stands text) whole.whole is) written
 
 -- the line of an input that is too long
-abbrev long_line : List ℕ
+abbrev pub long_line : List ℕ
 long_line = codes "line 1 Long" ++ 10 ∷ []
 
 long-line : long_line ≡ refused_line 1 (refusal.Syntax code.Long)
 long-line = ap (λ digits. codes "line " ++ (digits ++ 32 ∷ (codes "Long" ++ 10 ∷ []))) (sym (decimal_digit 1 (omega arith)))
 
 -- an input that is too long is refused at its first line
-too-long : (input : List ℕ) → 16384 < length input → IsRefusal input long_line
+pub too-long : (input : List ℕ) → 16384 < length input → IsRefusal input long_line
 too-long input more = record {
   line = 1;
   which = refusal.Syntax code.Long;

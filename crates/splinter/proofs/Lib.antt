@@ -15,3 +15,4 @@ pub mod Playing
 pub mod Refusing
 pub mod Lists
 pub mod Checked
+pub mod Judging

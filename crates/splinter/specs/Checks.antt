@@ -9,6 +9,10 @@ use Rattle.ext_check.specs.Checking.{IsAccepted, IsRefused}
 use Rattle.splinter.specs.declared.status.Status.{Status}
 use Rattle.splinter.specs.declared.status.Status.TheVariants as status
 
+-- the most bytes of an extension's text
+abbrev pub most_text : ℕ
+most_text = 16384
+
 -- `ok F`, with the number of functions
 abbrev pub accepted_line : ℕ → List ℕ
 accepted_line functions = codes "ok " ++ (decimal functions ++ 10 ∷ [])
@@ -61,6 +65,17 @@ Checks status.ReadFault input held left after = after ≡ Some held
 Checks status.Memory input held left after = after ≡ Some held
 Checks status.Script input held left after = ⊥
 Checks status.Usage input held left after = ⊥
+
+-- What a check tells of the input alone, whatever the sink shows of itself: with Ok it is an extension
+-- that may run, with Refused it is none.
+abbrev pub JudgesText : Status → List ℕ → Type 0
+JudgesText status.Ok input = (text : List ℕ) × IsAcceptance input text
+JudgesText status.Refused input = (text : List ℕ) × IsRefusal input text
+JudgesText status.WriteFault input = Unit {0}
+JudgesText status.ReadFault input = Unit {0}
+JudgesText status.Memory input = Unit {0}
+JudgesText status.Script input = ⊥
+JudgesText status.Usage input = ⊥
 
 -- what is to be written under a status
 abbrev pub IsVerdict : List ℕ → Status → List ℕ → Type 0

@@ -75,6 +75,17 @@ Runs status.Memory input held left after = after ≡ Some held
 Runs status.Usage input held left after = ⊥
 Runs status.Refused input held left after = ⊥
 
+-- What a run tells of the input alone, whatever the sink shows of itself: with Ok it is a script, with
+-- Script it is none.
+abbrev pub JudgesScript : Status → List ℕ → Type 0
+JudgesScript status.Ok input = (text : List ℕ) × IsPlayed input text
+JudgesScript status.Script input = IsNoScript input
+JudgesScript status.WriteFault input = Unit {0}
+JudgesScript status.ReadFault input = Unit {0}
+JudgesScript status.Memory input = Unit {0}
+JudgesScript status.Usage input = ⊥
+JudgesScript status.Refused input = ⊥
+
 -- a text was written whole, under this status, or writing failed and a prefix stands
 pub record WritesWhole (result whole : Status) (held text : List ℕ) (after : Option (List ℕ)) : Type 0 where
   pub status_is : result ≡ whole

@@ -1,8 +1,9 @@
 //! The command `check`.
 
-ghost use Rattle.std.specs.Prelude.{◌≡◌, ◌≢◌, ◌≤◌, length, IfSome, IfOk};
+ghost use Rattle.std.specs.Prelude.{◌≡◌, ◌≢◌, ◌≤◌, ◌+◌, length, IfSome, IfOk};
 ghost use Rattle.sp_outside.specs.Faults.{FaultCounted};
-ghost use Rattle.splinter.specs.Checks.{Checks, IsVerdict, accepted_line, refused_line};
+ghost use Rattle.sp_outside.specs.Reading.{TookUpTo};
+ghost use Rattle.splinter.specs.Checks.{Checks, IsVerdict, JudgesText, accepted_line, most_text, refused_line};
 
 use crate::run::write;
 use crate::status::Status;
@@ -24,16 +25,23 @@ struct Verdict {
 }
 
 /// Checks the extension that the source gives: one line tells the number of its functions, or the line
-/// and the code of its first refusal. At most one byte more than a text may have is read, and all is
-/// read before anything is written.
+/// and the code of its first refusal. All is read before anything is written.
 pub fn check_command<S: Source, K: Sink>(alloc: Global, source: &mut S, sink: &mut K) -> Status
     // What is written, where source and sink tell their content.
     ensures told { IfSome (S.left source.old) (λ input. IfSome (K.held sink.old) (λ held.
         Checks result input held (S.left source.new) (K.held sink.new))) }
+    // What the status tells of the input, where the source alone tells its content.
+    ensures judged { IfSome (S.left source.old) (λ input. JudgesText result input) }
+    // At most one byte more than a text may have is read.
+    ensures taken { IfSome (S.left source.old) (λ input. TookUpTo (most_text + 1) input (S.left source.new)) }
     // Why it stopped. Where no fault was counted it ends Ok or Refused, or for want of memory.
     ensures read_fault { result ≡ Status.ReadFault → FaultCounted (S.faults source.old) (S.faults source.new) }
     ensures write_fault { result ≡ Status.WriteFault → FaultCounted (K.faults sink.old) (K.faults sink.new) }
     ensures command { result ≢ Status.Usage }
+    ensures no_run { result ≢ Status.Script }
+    // Then nothing was written.
+    ensures unread { result ≡ Status.ReadFault → sink.new ≡ sink.old }
+    ensures no_memory { result ≡ Status.Memory → sink.new ≡ sink.old }
     // The counts never fall.
     ensures source_faults { S.faults source.old ≤ S.faults source.new }
     ensures sink_faults { K.faults sink.old ≤ K.faults sink.new }

@@ -1,8 +1,9 @@
 //! The command `run`.
 
-ghost use Rattle.std.specs.Prelude.{◌≡◌, ◌≢◌, ◌⊎◌, ◌≤◌, length, IfSome, IfOk, MatchOption};
+ghost use Rattle.std.specs.Prelude.{◌≡◌, ◌≢◌, ◌⊎◌, ◌≤◌, ◌+◌, length, IfSome, IfOk, MatchOption};
 ghost use Rattle.sp_outside.specs.Faults.{FaultCounted};
-ghost use Rattle.splinter.specs.Running.{Runs, IsPlayed, IsNoScript, refusal, most_script, WritesText};
+ghost use Rattle.sp_outside.specs.Reading.{TookUpTo};
+ghost use Rattle.splinter.specs.Running.{JudgesScript, Runs, IsPlayed, IsNoScript, refusal, most_script, WritesText};
 
 use crate::play::play;
 use crate::printing::text_of_play;
@@ -22,10 +23,18 @@ pub fn run_command<S: Source, K: Sink>(alloc: Global, source: &mut S, sink: &mut
     // What is written, where source and sink tell their content.
     ensures told { IfSome (S.left source.old) (λ input. IfSome (K.held sink.old) (λ held.
         Runs result input held (S.left source.new) (K.held sink.new))) }
+    // What the status tells of the input, where the source alone tells its content.
+    ensures judged { IfSome (S.left source.old) (λ input. JudgesScript result input) }
+    // At most one byte more than a script may have is read.
+    ensures taken { IfSome (S.left source.old) (λ input. TookUpTo (most_script + 1) input (S.left source.new)) }
     // Why it stopped. Where no fault was counted it ends Ok or Script, or for want of memory.
     ensures read_fault { result ≡ Status.ReadFault → FaultCounted (S.faults source.old) (S.faults source.new) }
     ensures write_fault { result ≡ Status.WriteFault → FaultCounted (K.faults sink.old) (K.faults sink.new) }
     ensures command { result ≢ Status.Usage }
+    ensures no_check { result ≢ Status.Refused }
+    // Then nothing was written.
+    ensures unread { result ≡ Status.ReadFault → sink.new ≡ sink.old }
+    ensures no_memory { result ≡ Status.Memory → sink.new ≡ sink.old }
     // The counts never fall.
     ensures source_faults { S.faults source.old ≤ S.faults source.new }
     ensures sink_faults { K.faults sink.old ≤ K.faults sink.new }

@@ -1,9 +1,10 @@
 //! The top call: it takes the program's words, and runs the command that they name.
 
-ghost use Rattle.std.specs.Prelude.{◌≡◌, ◌↔◌, ◌≤◌, IsTrue, IfSome};
+ghost use Rattle.std.specs.Prelude.{◌≡◌, ◌↔◌, ◌≤◌, ◌+◌, IsTrue, IfSome};
 ghost use Rattle.sp_outside.specs.Faults.{FaultCounted};
-ghost use Rattle.splinter.specs.Checks.{Checks};
-ghost use Rattle.splinter.specs.Running.{Runs};
+ghost use Rattle.sp_outside.specs.Reading.{TookUpTo};
+ghost use Rattle.splinter.specs.Checks.{Checks, JudgesText, most_text};
+ghost use Rattle.splinter.specs.Running.{JudgesScript, Runs, most_script};
 ghost use Rattle.splinter.specs.Words.{AreCheck, AreOnly, AreRun};
 
 use crate::check::check_command;
@@ -28,10 +29,26 @@ pub fn splinter<R, S: Source, K: Sink>(
         Runs result input held (S.left source.new) (K.held sink.new))) }
     ensures checked { AreCheck words.now → IfSome (S.left source.old) (λ input. IfSome (K.held sink.old) (λ held.
         Checks result input held (S.left source.new) (K.held sink.new))) }
+    // What the status tells of the input, where the source alone tells its content.
+    ensures run_judged { AreRun words.now → IfSome (S.left source.old) (λ input. JudgesScript result input) }
+    ensures check_judged { AreCheck words.now → IfSome (S.left source.old) (λ input. JudgesText result input) }
+    // At most one byte more is read than a script or a text may have.
+    ensures run_taken { AreRun words.now → IfSome (S.left source.old) (λ input.
+        TookUpTo (most_script + 1) input (S.left source.new)) }
+    ensures check_taken { AreCheck words.now → IfSome (S.left source.old) (λ input.
+        TookUpTo (most_text + 1) input (S.left source.new)) }
     // Why it stopped. Where no fault was counted `run` ends Ok or Script, and `check` Ok or Refused, or
     // either for want of memory.
     ensures read_fault { result ≡ Status.ReadFault → FaultCounted (S.faults source.old) (S.faults source.new) }
     ensures write_fault { result ≡ Status.WriteFault → FaultCounted (K.faults sink.old) (K.faults sink.new) }
+    ensures refused { result ≡ Status.Refused → AreCheck words.now }
+    ensures script { result ≡ Status.Script → AreRun words.now }
+    // Then nothing was written.
+    ensures unread { result ≡ Status.ReadFault → sink.new ≡ sink.old }
+    ensures no_memory { result ≡ Status.Memory → sink.new ≡ sink.old }
+    // The counts never fall.
+    ensures source_faults { S.faults source.old ≤ S.faults source.new }
+    ensures sink_faults { K.faults sink.old ≤ K.faults sink.new }
 {
     if are_only("run", words) {
         run_command(alloc, source, sink)
