@@ -69,9 +69,11 @@ impl Framer {
         ensures too_long { (n : ℕ) → IsErrOf result (FrameFault.TooLong n)
             ↔ MeetsTooLong self.old piece.now n }
         // Such a length is kept for good, and the bodies given are still those of all bytes fed.
-        ensures broken { (n : ℕ) → IsErrOf result (FrameFault.TooLong n) → self.new.broken ≡ Some n }
-        ensures refused { (n : ℕ) (fed : List ℕ) (bodies : List (List ℕ)) → Stands self.old fed bodies →
-            IsErrOf result (FrameFault.TooLong n) → Stands self.new (fed ++ piece.now) bodies }
+        ensures broken { (n : ℕ) → IsErrOf result (FrameFault.TooLong n) →
+            self.new.broken ≡ Some n }
+        ensures refused { (n : ℕ) (fed : List ℕ) (bodies : List (List ℕ)) →
+            IsErrOf result (FrameFault.TooLong n) → Stands self.old fed bodies →
+            Stands self.new (fed ++ piece.now) bodies }
         ensures memory { IsErrOf result FrameFault.Memory → self.new ≡ self.old }
     {
         if let Some(n) = self.too_long {

@@ -64,20 +64,22 @@ fn is_frame(rt: &impl Abort, frame: &[u8], body: &[u8])
     assert_eq!(rt; rest, body);
 }
 
-/// The body spells a request: it is decoded and encoded.
+/// The body spells a request: it is decoded, shared and encoded.
 fn spells_request(rt: &impl Abort, alloc: Global, body: &[u8]) -> Result<Request, Fail> {
     assert!(rt; body.len() <= 20_000);
     let message = decode_request(alloc, body)?;
-    let frame = encode_request(alloc, &message)?;
+    let shared = share_request(alloc, &message)?;
+    let frame = encode_request(alloc, &shared)?;
     is_frame(rt, frame.bytes(), body);
     Ok(message)
 }
 
-/// The body spells an answer: it is decoded and encoded.
+/// The body spells an answer: it is decoded, shared and encoded.
 fn spells_answer(rt: &impl Abort, alloc: Global, body: &[u8]) -> Result<Answer, Fail> {
     assert!(rt; body.len() <= 20_000);
     let message = decode_answer(alloc, body)?;
-    let frame = encode_answer(alloc, &message)?;
+    let shared = share_answer(alloc, &message)?;
+    let frame = encode_answer(alloc, &shared)?;
     is_frame(rt, frame.bytes(), body);
     Ok(message)
 }

@@ -29,8 +29,8 @@ const REQUESTS: &str = "\
 06 00000005 01 6b 1001 76 => 8
 06 00000005 01 6b 1100 => 7";
 
-/// Bodies that are no answer. The tables of a Welcome here are 5 and 5, 256 and less, and one that leaves
-/// no room for another.
+/// Bodies that are no answer. The tables of a Welcome here are 5 and 5, 256 and less, and one that
+/// leaves no room for another.
 const ANSWERS: &str = "\
 40 => 0
 49 00 => 0

@@ -13,7 +13,8 @@ Asked { caller: 4, number: CallNo(5), ext: ExtNo(6), \
 budget: 4294967295, push_ok: true, args: Blob { bytes: [] } }] } }
 04 00000001 0000000000000002 00000005 01 6b \
 => Fetch { caller: 1, number: CallNo(2), table: TableId(5), key: Key { bytes: [107] } }
-05 00000001 0000000000000002 00 0000000000000003 0001 09 02 00000005 01 6b 01 0001 76 00000005 01 6c 00 \
+05 00000001 0000000000000002 00 0000000000000003 0001 09 \
+02 00000005 01 6b 01 0001 76 00000005 01 6c 00 \
 => Finish { caller: 1, number: CallNo(2), \
 outcome: Done(Reply { code: 3, bytes: Blob { bytes: [9] } }), writes: Writes { items: [\
 Write { table: TableId(5), key: Key { bytes: [107] }, change: Put(Blob { bytes: [118] }) }, \
