@@ -40,8 +40,8 @@ pub fn borrows(buffer: usize, marks: &[bool], origin: Origin) -> bool
     }
 }
 
-#[tactic(auto, using(crate::proofs::TableLemmas::table_lemmas))]
 /// Marks who is given what borrows from the buffer, and answers whether that is new.
+#[tactic(auto, using(crate::proofs::TableLemmas::table_lemmas))]
 fn give(buffer: usize, gift: Gift, marks: &mut Vec<bool>) -> bool
     ensures given { marks.new.items ≡ (if borrows buffer marks.old.items gift.origin
         then slice_set marks.old.items gift.to true else marks.old.items) }

@@ -30,7 +30,7 @@ const FUNCTIONS: &str = r#"1 Twice: fn f(a: int, a: bool) -> int { return 0; }
 ok: fn f(a: int, b: bool) -> int { return 0; }~fn g(a: int) -> int { return a; }
 2 Twice: fn f(a: int) -> int {~let a: int = 1; return a; }
 2 Twice: fn f() -> int { return 0; }~fn f() -> slice { }
-3 Twice: fn f() -> int { return 1; }~fn g() -> int { let n: int = f(); return n; }~fn f() -> bool { }
+3 Twice: fn f()->int{ return 1; }~fn g()->int{ let n: int = f(); return n; }~fn f() -> bool { }
 2 Order: fn f() -> int {~let n: int = f(); return n; }
 2 Order: fn f() -> int {~let n: int = g(); return n; }~fn g() -> int { return 0; }
 ok: fn g() -> int { return 0; }~fn f() -> int { let n: int = g(); return n; }
@@ -43,7 +43,7 @@ ok: fn g() -> int { return 0; }~fn f() -> int { let n: int = g(); return n; }
 ok: fn f(b: temp) -> temp { if true { let s: slice = view(b); } return b; }
 3 Frozen: fn f(b: temp, s: slice) -> int {~s = view(b);~set(b, 0, 1); return 0; }
 ok: fn f(b: temp, s: slice) -> int { set(b, 0, 1); return byte(s, 0); }
-2 Frozen: fn f(b: temp) -> temp { multiget(5, view(b), 1) { some s => {~return b; } none => { } }~return b; }
+2 Frozen: fn f(b: temp)->temp{ multiget(5, view(b), 1) {some s=>{~return b; } none=>{ }} return b; }
 2 Outlived: fn f(s: slice, b: temp) -> int {~s = view(b); return 0; }
 4 Expected: fn f(b: temp) -> temp { let c: temp = b;~set(b, 0, 1);~n = 1;~return b }
 3 NoName: fn f(b: temp) -> temp { let c: temp = b;~set(b, 0, 1);~n = 1;~return b; }

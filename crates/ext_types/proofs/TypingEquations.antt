@@ -1,13 +1,13 @@
 -- The items of the statements that have blocks, and of blocks.
-use Rattle.std.proofs.Common.{◌≡◌, ℕ, List, [], ◌∷◌, ◌++◌, map, Option, refl, ap, sym, ◌∙◌, rules}
+use Rattle.std.proofs.Common.{◌≡◌, ℕ, List, ◌∷◌, ◌++◌, map, Option, ap, sym, ◌∙◌}
 use Rattle.ext_mean.specs.declared.check_codes.TypeCode.{TypeCode}
 use Rattle.ext_mean.specs.declared.expr.Expr.{Expr}
 use Rattle.ext_mean.specs.declared.tree.Param.{Param}
 use Rattle.ext_mean.specs.declared.statement.Statement.{Statement}
 use Rattle.ext_mean.specs.declared.statement.Statement.TheVariants.{If, While, Get, Multi, rolls-If, rolls-While, rolls-Get, rolls-Multi, outs-If, outs-While, outs-Get, outs-Multi}
-use Rattle.ext_mean.specs.declared.statement.Statement.TheViews.{roll-Statement, roll-Block, out-Statement, out-Block}
-use Rattle.ext_mean.specs.declared.statement.Statement.TheOpen.{Statement-F, Block-F}
-use Rattle.ext_mean.specs.declared.statement.Statement.TheFolds.{fold-roll-Statement, fold-roll-Block, map-Statement, map-Block, fold_out-Block}
+use Rattle.ext_mean.specs.declared.statement.Statement.TheViews.{roll-Statement, out-Statement}
+use Rattle.ext_mean.specs.declared.statement.Statement.TheOpen.{Statement-F}
+use Rattle.ext_mean.specs.declared.statement.Statement.TheFolds.{fold-roll-Statement, map-Statement, fold_out-Block}
 use Rattle.ext_mean.specs.declared.statement.Block.{Block}
 use Rattle.ext_mean.specs.TypesOfItems.{Setting, statement_code}
 use Rattle.ext_mean.specs.Typing.{Checked, Codes, arm_name, block_codes, checked, in_order, statement_step, block_step}

@@ -1,5 +1,5 @@
 -- How far a check has come through the items of a program.
-use Rattle.std.specs.Prelude.{ℕ, ◌+◌, List, length, Option, None}
+use Rattle.std.specs.Prelude.{◌+◌, List, length, Option, None}
 use Rattle.ext_mean.specs.declared.check_codes.TypeCode.{TypeCode}
 use Rattle.ext_mean.specs.Items.{first_fault}
 use Rattle.ext_types.specs.declared.progress.Progress.{Progress}

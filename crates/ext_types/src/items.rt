@@ -1,7 +1,7 @@
 ghost use Rattle.std.specs.Prelude.{◌≡◌};
 ghost use Rattle.std.specs.Option.{option_copied};
 ghost use Rattle.ext_mean.specs.declared.statement.Statement.TheViews.{out-Statement};
-ghost use Rattle.ext_mean.specs.TypesOfItems.{arguments_code, call_code, function_named, statement_code};
+ghost use Rattle.ext_mean.specs.TypesOfItems.{arguments_code, assigned_code, call_code, function_named, new_name, statement_code};
 ghost use Rattle.ext_mean.specs.declared.statement.Kind.TheVariants as kind;
 ghost use Rattle.ext_mean.specs.Types.{asks, asks_buffer, earlier, kind_of, type_of};
 ghost use Rattle.ext_types.specs.Places.{setting};
@@ -88,29 +88,67 @@ fn key_code(scope: &[Param], table: &Expr, key: &Expr) -> Option<TypeCode>
     earlier(table, asks(Kind::Slice, type_of(scope, key)))
 }
 
+/// A table, the keys of a `multiget` and their width.
+fn keys_code(scope: &[Param], table: &Expr, keys: &Expr, width: &Expr) -> Option<TypeCode>
+    ensures { result ≡ earlier (asks kind.Int (type_of scope.now table.now))
+        (earlier (asks kind.Slice (type_of scope.now keys.now)) (asks kind.Int (type_of scope.now width.now))) }
+{
+    let code = asks(Kind::Int, type_of(scope, table));
+    let keys = asks(Kind::Slice, type_of(scope, keys));
+    earlier(code, earlier(keys, asks(Kind::Int, type_of(scope, width))))
+}
+
+/// `let name: kind = value;`
+fn let_code(scope: &[Param], name: &Name, kind: Kind, value: &Expr) -> Option<TypeCode>
+    ensures { result ≡ earlier (new_name scope.now name.now) (asks kind (type_of scope.now value.now)) }
+{
+    earlier(new_name(scope, name), asks(kind, type_of(scope, value)))
+}
+
+/// `let name: kind = function(args);`
+fn let_call_code(
+    at: &Place,
+    scope: &[Param],
+    variable: (&Name, Kind),
+    function: &Name,
+    args: &[Expr],
+) -> Option<TypeCode>
+    ensures { result ≡ earlier (new_name scope.now variable.entry.0.now)
+        (call_code (setting at.now) scope.now function.now variable.entry.1
+        (function_named function.now at.now.before.now) args.now) }
+{
+    let code = call_code(at, scope, function, variable.1, args);
+    earlier(new_name(scope, variable.0), code)
+}
+
+/// `name = value;`
+fn assign_code(scope: &[Param], name: &Name, value: &Expr) -> Option<TypeCode>
+    ensures { result ≡ assigned_code (kind_of scope.now name.now) (type_of scope.now value.now) }
+{
+    assigned_code(kind_of(scope, name), type_of(scope, value))
+}
+
+/// The test of an `if` or `while`.
+fn test_code(scope: &[Param], test: &Expr) -> Option<TypeCode>
+    ensures { result ≡ asks kind.Bool (type_of scope.now test.now) }
+{
+    asks(Kind::Bool, type_of(scope, test))
+}
+
 /// The code of a statement's own item.
-pub fn statement_code(place: &Place, scope: &[Param], statement: &Statement) -> Option<TypeCode>
-    ensures { result ≡ statement_code (setting place.now) scope.now (out-Statement statement.now) }
+pub fn statement_code(at: &Place, scope: &[Param], statement: &Statement) -> Option<TypeCode>
+    ensures { result ≡ statement_code (setting at.now) scope.now (out-Statement statement.now) }
 {
     match statement {
-        Statement::Let { name, kind, value } => {
-            earlier(new_name(scope, name), asks(*kind, type_of(scope, value)))
-        }
+        Statement::Let { name, kind, value } => let_code(scope, name, *kind, value),
         Statement::LetCall {
             name,
             kind,
             function,
             args,
-        } => {
-            let code = call_code(place, scope, function, *kind, args.as_slice());
-            earlier(new_name(scope, name), code)
-        }
-        Statement::Assign { name, value } => {
-            assigned_code(kind_of(scope, name), type_of(scope, value))
-        }
-        Statement::If { test, .. } | Statement::While { test, .. } => {
-            asks(Kind::Bool, type_of(scope, test))
-        }
+        } => let_call_code(at, scope, (name, *kind), function, args.as_slice()),
+        Statement::Assign { name, value } => assign_code(scope, name, value),
+        Statement::If { test, .. } | Statement::While { test, .. } => test_code(scope, test),
         Statement::Get {
             table,
             key,
@@ -123,30 +161,18 @@ pub fn statement_code(place: &Place, scope: &[Param], statement: &Statement) -> 
             width,
             some,
             ..
-        } => {
-            let table = asks(Kind::Int, type_of(scope, table));
-            let keys = asks(Kind::Slice, type_of(scope, keys));
-            let width = asks(Kind::Int, type_of(scope, width));
-            earlier(new_name(scope, some), earlier(table, earlier(keys, width)))
+        } => earlier(new_name(scope, some), keys_code(scope, table, keys, width)),
+        Statement::Set { name, place, value } | Statement::Set8 { name, place, value } => {
+            change_code(scope, name, place, Kind::Int, value)
         }
-        Statement::Set {
-            name,
-            place: at,
-            value,
-        }
-        | Statement::Set8 {
-            name,
-            place: at,
-            value,
-        } => change_code(scope, name, at, Kind::Int, value),
         Statement::Copy {
             name,
-            place: at,
+            place,
             source,
-        } => change_code(scope, name, at, Kind::Slice, source),
+        } => change_code(scope, name, place, Kind::Slice, source),
         Statement::Put { name } => put_code(kind_of(scope, name)),
         Statement::Del { table, key } => key_code(scope, table, key),
         Statement::Resp { value } => asks(Kind::Slice, type_of(scope, value)),
-        Statement::Return { value } => asks(place.result, type_of(scope, value)),
+        Statement::Return { value } => asks(at.result, type_of(scope, value)),
     }
 }

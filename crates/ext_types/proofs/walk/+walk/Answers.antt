@@ -1,13 +1,9 @@
-use Rattle.std.proofs.Common.{◌≡◌, [], ◌∷◌, ◌++◌, OnOk, ℕ, List, Option, inl, inr, refl, ap, sym, ◌∙◌, subst}
-use Rattle.ext_mean.specs.declared.check_codes.TypeCode.{TypeCode}
-use Rattle.ext_mean.specs.declared.statement.Statement.{Statement}
-use Rattle.ext_mean.specs.declared.statement.Statement.TheVariants.{If, While, Get, Multi}
+use Rattle.std.proofs.Common.{◌≡◌, ◌∷◌, ◌++◌, OnOk, inl, inr, refl, ap, ◌∙◌, subst}
 use Rattle.ext_mean.specs.declared.statement.Statement.TheViews.{out-Statement}
 use Rattle.ext_mean.specs.TypesOfItems.{statement_code}
 use Rattle.ext_mean.specs.Typing.{arm_name, block_codes, checked}
 use Rattle.ext_types.specs.declared.progress.Progress.{Progress}
 use Rattle.ext_types.specs.Places.{setting}
-use Rattle.ext_types.specs.Progress.{after}
 use Rattle.ext_types.proofs.TypingEquations.{codes-If, codes-While, codes-Get, codes-Multi}
 use Rattle.ext_types.proofs.WalkLemmas.{one-statement, no-statement, outer-stays, two-blocks, one-block}
 use Rattle.ext_types.proofs.walk.+walk.Goals as goal
