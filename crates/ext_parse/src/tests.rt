@@ -145,8 +145,8 @@ fn main()->int{get(0,args()){~none=>{}some s=>{}}}~ => 2 Expected
 fn main()->int{}~int~ => 2 Expected
 ";
 
-/// Extensions that a tenant may install: a look-up, a counter, a look-up in two hops, a deletion, a blind
-/// write, a wait until two records agree, a write that is read back, and a write at many places.
+/// Extensions that a tenant may install: a look-up, a counter, a look-up in two hops, a deletion, a
+/// blind write, a wait until two records agree, a write that is read back, and many writes.
 const WORKED: &str = "\
 fn main() -> int { get(5, args()) { some s => { resp(s); } none => { } } return 0; }~ => ok
 fn main() -> int { let n: int = 0; get(6, args()) { some s => { n = u64(s, 0); } none => { } } \

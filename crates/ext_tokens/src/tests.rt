@@ -4,8 +4,8 @@ use sp_base::Memory;
 use std::alloc::{AllocError, Global};
 use std::test::Fail;
 
-/// Adds the bytes of a notation: `~` is a newline, `$` a tab, and `^` and `?` are the first byte above
-/// the visible ones and the one behind it.
+/// Adds the bytes of a notation: `~` is a newline, `$` a tab, and `^` and `?` are the first two
+/// bytes above the visible ones.
 fn push_bytes(text: &mut Vec<u8>, notation: &str) -> Result<(), AllocError> {
     for byte in notation.as_bytes() {
         text.push(match *byte {
@@ -100,7 +100,8 @@ fn parts(case: &str) -> Result<(&str, &str), Fail> {
 const TOKENS: &str = "\
 fn set8(set9) -> u64 {~ => 1:Fn 1:Set8 1:Open 1:set9 1:Close 1:Arrow 1:U64 1:OpenBlock end 1
 a=>b==c~= >d~ => 1:a 1:Arm 1:b 1:Equal 1:c 2:Assign 2:Greater 2:d end 2
-<=<!=!>=>-->~ => 1:LessEqual 1:Less 1:NotEqual 1:Not 1:GreaterEqual 1:Greater 1:Subtract 1:Arrow end 1
+<=<!=!~ => 1:LessEqual 1:Less 1:NotEqual 1:Not end 1
+>=>-->~ => 1:GreaterEqual 1:Greater 1:Subtract 1:Arrow end 1
 # a \"x~~$7 0 18446744073709551615 # end = 1a~#~ => 3:7 3:0 3:18446744073709551615 end 4
 \"a # \\x0a\\xffb\"\"\"~ => 1:x612023200aff62 1:x end 1
 abcdefghijklmnopqrstuvwxyz_12345~ => 1:abcdefghijklmnopqrstuvwxyz_12345 end 1
