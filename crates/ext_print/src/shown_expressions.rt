@@ -83,12 +83,23 @@ pub fn show_expression(alloc: Global, tokens: &mut Items<Token>, expr: &Expr) ->
         Expr::Var(name) => tokens.push(Token::Name(name.share(alloc)?))?,
         Expr::Args => show_args(tokens)?,
         Expr::View(name) => show_named(alloc, tokens, Word::View, name)?,
-        Expr::Len(a) => show_one(alloc, tokens, Word::Len, a.get())?,
-        Expr::Temp(a) => show_one(alloc, tokens, Word::Temp, a.get())?,
-        Expr::Byte(a, b) => show_two(alloc, tokens, Word::Byte, a.get(), b.get())?,
-        Expr::Word(a, b) => show_two(alloc, tokens, Word::U64, a.get(), b.get())?,
-        Expr::Sub(a, b, c) => show_three(alloc, tokens, Word::Sub, a.get(), b.get(), c.get())?,
-        Expr::Alloc(a, b, c) => show_three(alloc, tokens, Word::Alloc, a.get(), b.get(), c.get())?,
+        Expr::Len(bytes) => show_one(alloc, tokens, Word::Len, bytes.get())?,
+        Expr::Temp(size) => show_one(alloc, tokens, Word::Temp, size.get())?,
+        Expr::Byte(bytes, at) => show_two(alloc, tokens, Word::Byte, bytes.get(), at.get())?,
+        Expr::Word(bytes, at) => show_two(alloc, tokens, Word::U64, bytes.get(), at.get())?,
+        Expr::Sub(bytes, at, size) => {
+            show_three(alloc, tokens, Word::Sub, bytes.get(), at.get(), size.get())?
+        }
+        Expr::Alloc(table, key, size) => {
+            show_three(
+                alloc,
+                tokens,
+                Word::Alloc,
+                table.get(),
+                key.get(),
+                size.get(),
+            )?
+        }
         Expr::Not(operand) => show_not(alloc, tokens, operand.get())?,
         Expr::Bin(operator, left, right) => {
             show_sides(alloc, tokens, *operator, left.get(), right.get())?
