@@ -28,7 +28,8 @@ pub fn key(alloc: Global, bytes: &[u8]) -> Result<(Key, &[u8]), ReadFault>
     let (found, rest) = front(rest, n as usize)?;
     match Key::of(alloc, found) {
         Ok(key) => Ok((key, rest)),
-        Err(_) => Err(ReadFault::Memory),
+        Err(KeyFault::Memory) => Err(ReadFault::Memory),
+        Err(KeyFault::Size) => unreachable!(),
     }
 }
 
