@@ -1,12 +1,12 @@
 -- What the statements that have blocks give, and what blocks give.
-use Rattle.std.proofs.Common.{◌≡◌, ℕ, ◌+◌, List, [], ◌∷◌, ◌++◌, map, refl, ap, sym, ◌∙◌, append_assoc}
+use Rattle.std.proofs.Common.{◌≡◌, ℕ, ◌+◌, List, ◌++◌, map, ap, sym, ◌∙◌, append_assoc}
 use Rattle.ext_mean.specs.declared.borrowing.Gift.{Gift}
 use Rattle.ext_mean.specs.declared.borrowing.Variable.{Variable}
 use Rattle.ext_mean.specs.declared.expr.Expr.{Expr}
 use Rattle.ext_mean.specs.declared.statement.Statement.{Statement}
 use Rattle.ext_mean.specs.declared.statement.Statement.TheVariants.{If, While, Get, Multi, rolls-If, rolls-While, rolls-Get, rolls-Multi}
 use Rattle.ext_mean.specs.declared.statement.Statement.TheViews.{roll-Statement}
-use Rattle.ext_mean.specs.declared.statement.Statement.TheOpen.{Statement-F, Block-F}
+use Rattle.ext_mean.specs.declared.statement.Statement.TheOpen.{Statement-F}
 use Rattle.ext_mean.specs.declared.statement.Statement.TheFolds.{fold-roll-Statement, map-Statement, fold_out-Block}
 use Rattle.ext_mean.specs.declared.statement.Block.{Block}
 use Rattle.ext_mean.specs.Borrowing.{Giving, BlockGiving, block_giving, block_giving_step, count_all, gifts_in_order, giving, giving_step, numbered}

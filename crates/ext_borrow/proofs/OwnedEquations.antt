@@ -1,15 +1,15 @@
 -- The items of the statements that have blocks, and of blocks.
-use Rattle.std.proofs.Common.{◌≡◌, ℕ, ◌+◌, Bool, true, false, List, [], ◌∷◌, ◌++◌, length, map, refl, ap, sym, ◌∙◌}
+use Rattle.std.proofs.Common.{◌≡◌, ℕ, Bool, false, List, [], ◌∷◌, ◌++◌, length, map, refl, ap, sym, ◌∙◌}
 use Rattle.ext_mean.specs.declared.expr.Expr.{Expr}
 use Rattle.ext_mean.specs.declared.statement.Statement.{Statement}
 use Rattle.ext_mean.specs.declared.statement.Statement.TheVariants.{If, While, Get, Multi, rolls-If, rolls-While, rolls-Get, rolls-Multi}
 use Rattle.ext_mean.specs.declared.statement.Statement.TheViews.{roll-Statement, out-Statement}
-use Rattle.ext_mean.specs.declared.statement.Statement.TheOpen.{Statement-F, Block-F}
+use Rattle.ext_mean.specs.declared.statement.Statement.TheOpen.{Statement-F}
 use Rattle.ext_mean.specs.declared.statement.Statement.TheFolds.{fold-roll-Statement, map-Statement, fold_out-Block, fold_out-Statement}
 use Rattle.ext_mean.specs.declared.statement.Block.{Block}
 use Rattle.ext_mean.specs.Items.{is_return, is_return_form, last_is_return}
 use Rattle.ext_mean.specs.OwnedItems.{Scene, looks, loops}
-use Rattle.ext_mean.specs.Ownership.{Owned, Course, Passed, again, again_both, block_passes, extended, last_returns, leaves, one_of, owned, owned_block, owned_step, pass_in_order, with_arm, with_held}
+use Rattle.ext_mean.specs.Ownership.{Owned, Course, again, again_both, block_passes, extended, last_returns, leaves, one_of, owned, owned_block, owned_step, pass_in_order, with_arm, with_held}
 
 owned-roll : (loans : List (List Bool)) (form : Statement-F Statement Block) (statement : Statement) → roll-Statement form ≡ statement → owned loans statement ≡ owned_step loans (map-Statement Statement Block Owned Course (owned loans) (owned_block loans) form)
 unfolding owned owned_block

@@ -1,5 +1,5 @@
 -- One statement of a block and what is left of it, and statements with two blocks.
-use Rattle.std.proofs.Common.{◌≡◌, ℕ, ◌+◌, ◌-◌, ◌<◌, ◌≤◌, Result, Ok, Err, OnOk, Bool, true, false, List, [], ◌∷◌, ◌++◌, length, map, drop, take, get_or, Option, refl, ap, sym, ◌∙◌, subst, arith, add-one, drop-cons, append-nil, length-append}
+use Rattle.std.proofs.Common.{◌≡◌, ℕ, ◌+◌, ◌-◌, ◌<◌, ◌≤◌, Result, Ok, Err, OnOk, Bool, false, List, [], ◌∷◌, ◌++◌, length, map, drop, take, get_or, Option, refl, ap, sym, ◌∙◌, arith, add-one, drop-cons, length-append}
 use Rattle.std.proofs.Math.Seq.{take-append_seam}
 use Rattle.std.specs.Prelude.{◌||◌}
 use Rattle.std.proofs.lemmas.Grind.{common_steps}

@@ -1,7 +1,6 @@
 -- the arguments that are left answer as all do
 use Rattle.std.proofs.Common.{◌≡◌, drop}
 use Rattle.ext_mean.specs.OwnedItems.{any_gone}
-use Rattle.ext_borrow.specs.Scenes.{seen}
 use Rattle.ext_borrow.proofs.arguments.any_gone.Given as goal
 
 abbrev pub invariant-loop-arg : goal.invariant-loop-arg

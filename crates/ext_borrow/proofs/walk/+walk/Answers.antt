@@ -1,15 +1,13 @@
-use Rattle.std.proofs.Common.{◌≡◌, ℕ, ◌+◌, Bool, false, List, [], ◌∷◌, ◌++◌, OnOk, length, map, drop, refl, ap, sym, ◌∙◌}
+use Rattle.std.proofs.Common.{◌≡◌, Bool, false, List, [], ◌∷◌, ◌++◌, length, refl, ap, sym, ◌∙◌}
 use Rattle.std.proofs.Common.{Vec, Global, append-nil}
 use Rattle.std.specs.Prelude.{◌||◌}
 use Rattle.ext_mean.specs.declared.borrowing.Variable.{Variable}
-use Rattle.ext_mean.specs.Items.{is_return, last_is_return}
 use Rattle.ext_mean.specs.OwnedItems as scenes
 use Rattle.ext_mean.specs.OwnedItems.{looks, loops, newly_gone}
-use Rattle.ext_mean.specs.Ownership.{Passed, declares_more, either, extended, leaves, owned, owned_block, with_arm, with_held}
+use Rattle.ext_mean.specs.Ownership.{Passed, either, extended, leaves, owned, owned_block, with_arm, with_held}
 use Rattle.ext_borrow.specs.declared.progress.Progress.{Progress}
 use Rattle.ext_borrow.specs.Progress.{after, behind, joined}
 use Rattle.ext_borrow.specs.Scenes.{seen}
-use Rattle.ext_borrow.specs.Walks.{Passes}
 use Rattle.ext_borrow.proofs.OwnedEquations.{passes-If, passes-While, passes-Get, passes-Multi, declares-Multi}
 use Rattle.ext_borrow.proofs.PassLemmas.{drop-item, one-codes, one-gone, all-codes, all-gone, outer-stays, branches-codes, branches-gone, turns-codes, turns-gone, arms-codes, arms-gone, unheld, on-ok, on-ok-both, on-ok-three, scene-parts}
 use Rattle.ext_borrow.proofs.walk.+walk.Goals as goal
