@@ -32,7 +32,7 @@ pub fn run_command<S: Source, K: Sink>(alloc: Global, source: &mut S, sink: &mut
     ensures write_fault { result ≡ Status.WriteFault → FaultCounted (K.faults sink.old) (K.faults sink.new) }
     ensures command { result ≢ Status.Usage }
     ensures no_check { result ≢ Status.Refused }
-    // Then nothing was written.
+    // After a read fault, and where memory ran out, nothing was written.
     ensures unread { result ≡ Status.ReadFault → sink.new ≡ sink.old }
     ensures no_memory { result ≡ Status.Memory → sink.new ≡ sink.old }
     // The counts never fall.

@@ -43,7 +43,7 @@ pub fn splinter<R, S: Source, K: Sink>(
     ensures write_fault { result ≡ Status.WriteFault → FaultCounted (K.faults sink.old) (K.faults sink.new) }
     ensures refused { result ≡ Status.Refused → AreCheck words.now }
     ensures script { result ≡ Status.Script → AreRun words.now }
-    // Then nothing was written.
+    // After a read fault, and where memory ran out, nothing was written.
     ensures unread { result ≡ Status.ReadFault → sink.new ≡ sink.old }
     ensures no_memory { result ≡ Status.Memory → sink.new ≡ sink.old }
     // The counts never fall.
