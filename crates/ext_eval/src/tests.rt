@@ -370,7 +370,11 @@ fn limits_hold_to_the_last_byte(rt: HostRuntime) -> Result<(), Fail> {
         _ => assert!(rt; false),
     }
     let key = [b'k'; 65];
-    for text in [LOOK_UP, "del 6 args return 0", "let b buf alloc 6 args 1 return 0"] {
+    for text in [
+        LOOK_UP,
+        "del 6 args return 0",
+        "let b buf alloc 6 args 1 return 0",
+    ] {
         expect(&rt, alloc, text, &key, 1000, "1 trap 3")?;
     }
     match run(alloc, LOOK_UP, &key[..64], 1000)? {
