@@ -119,3 +119,22 @@ read_answer book tenant table key =
     if can_read (rights_of book.grants tenant) table.0
     then read.Found (item_at book.journal table key)
     else read.Denied
+
+-- Which answers take memory: each refusal is decided before any memory is asked for, but that a
+-- Conflict tells the key of its read.
+abbrev pub ReadTakesMemory : Read → Type 0
+ReadTakesMemory (read.Found item) = Unit {0}
+ReadTakesMemory _ = ⊥
+
+abbrev pub PutTakesMemory : Put → Type 0
+PutTakesMemory (put.Done n) = Unit {0}
+PutTakesMemory _ = ⊥
+
+abbrev pub InstallTakesMemory : Install → Type 0
+InstallTakesMemory (install.Installed n ext) = Unit {0}
+InstallTakesMemory _ = ⊥
+
+abbrev pub CommitTakesMemory : Commit → Type 0
+CommitTakesMemory (Committed n outcome) = Unit {0}
+CommitTakesMemory (Conflict table key read read_at now now_at) = Unit {0}
+CommitTakesMemory _ = ⊥

@@ -8,7 +8,7 @@ ghost use Rattle.book.specs.GrantsList.{rights_of};
 ghost use Rattle.book.specs.Legal.{Names};
 ghost use Rattle.book.specs.Sizes.{size_of_entry};
 ghost use Rattle.book.specs.Standing.{IsSound};
-ghost use Rattle.book.specs.Verdict.{grown, is_full_for, item_at, entry_of, moved, verdict, verdict_on, after_commit, put_answer, after_put, install_answer, after_install, read_answer, without_value, IsHeld};
+ghost use Rattle.book.specs.Verdict.{grown, is_full_for, item_at, entry_of, moved, verdict, verdict_on, after_commit, put_answer, after_put, install_answer, after_install, read_answer, without_value, CommitTakesMemory, InstallTakesMemory, IsHeld, PutTakesMemory, ReadTakesMemory};
 
 use crate::answers::{Commit, Install, Put, Read};
 use crate::entry::{Entry, Home};
@@ -108,7 +108,9 @@ impl Book {
 
     /// Reads one record, with its version.
     pub fn read(&self, tenant: TenantId, table: TableId, key: &Key) -> Read
-        ensures { (result ≡ Read.Memory) ⊎ (result ≡ read_answer self.now tenant table key.now) }
+        ensures answer { (result ≡ Read.Memory) ⊎ (result ≡ read_answer self.now tenant table key.now) }
+        // A refusal comes before want of memory.
+        ensures memory { result ≡ Read.Memory → ReadTakesMemory (read_answer self.now tenant table key.now) }
     {
         if self.grants.level(tenant, table) == Level::Nothing {
             return Read::Denied;
@@ -160,6 +162,8 @@ impl Book {
         requires { IsValue value }
         ensures answer { (result ≡ Put.Memory) ⊎ (result ≡ put_answer self.old tenant table (Entry.Put tenant table key value)) }
         ensures book { self.new ≡ after_put result self.old (Entry.Put tenant table key value) }
+        // A refusal comes before want of memory.
+        ensures memory { result ≡ Put.Memory → PutTakesMemory (put_answer self.old tenant table (Entry.Put tenant table key value)) }
     {
         if self.grants.level(tenant, table) != Level::Write {
             return Put::Denied;
@@ -185,6 +189,8 @@ impl Book {
     pub fn install(&mut self, tenant: TenantId, ext: Ext) -> Install
         ensures answer { (result ≡ Install.Memory) ⊎ (result ≡ install_answer self.old tenant (Entry.Install tenant ext.text)) }
         ensures book { self.new ≡ after_install result self.old (Entry.Install tenant ext.text) }
+        // A refusal comes before want of memory.
+        ensures memory { result ≡ Install.Memory → InstallTakesMemory (install_answer self.old tenant (Entry.Install tenant ext.text)) }
     {
         let n = self.journal().len() as u64;
         let number = ExtNo(self.ext_count(tenant));
@@ -211,6 +217,9 @@ impl Book {
             (entry_of done.call done.outcome done.writes done.reads) done.outcome done.reads) }
         ensures book { self.new ≡ after_commit result self.old
             (entry_of done.call done.outcome done.writes done.reads) }
+        // Stale and Full come before want of memory.
+        ensures memory { result ≡ Commit.Memory → CommitTakesMemory (verdict self.old done.call
+            (entry_of done.call done.outcome done.writes done.reads) done.outcome done.reads) }
     {
         let last = self.last(done.call.caller);
         if done.call.number.0 <= last {
@@ -255,6 +264,8 @@ impl Book {
             (entry_of done.call done.outcome done.writes done.reads) done.outcome None) }
         ensures book { self.new ≡ after_commit result self.old
             (entry_of done.call done.outcome done.writes done.reads) }
+        ensures memory { result ≡ Commit.Memory → CommitTakesMemory (verdict_on self.old
+            (entry_of done.call done.outcome done.writes done.reads) done.outcome None) }
     {
         let n = self.journal().len() as u64;
         let Finished {
