@@ -10,9 +10,9 @@ use Rattle.ext_mean.specs.declared.statement.Kind.{Kind}
 use Rattle.ext_mean.specs.declared.statement.Statement.{Statement}
 use Rattle.ext_mean.specs.declared.statement.Block.{Block}
 use Rattle.ext_mean.specs.declared.statement.Statement.TheVariants as does
-use Rattle.ext_mean.specs.declared.statement.Statement.TheViews.{roll-Statement, roll-Block}
-use Rattle.ext_mean.specs.declared.statement.Statement.TheOpen.{Statement-F, Block-F}
-use Rattle.ext_mean.specs.declared.statement.Statement.TheFolds.{fold-roll-Statement, fold-roll-Block, map-Statement, map-Block}
+use Rattle.ext_mean.specs.declared.statement.Statement.TheViews.{roll-Statement}
+use Rattle.ext_mean.specs.declared.statement.Statement.TheOpen.{Statement-F}
+use Rattle.ext_mean.specs.declared.statement.Statement.TheFolds.{fold-roll-Statement, fold-roll-Block, map-Statement}
 use Rattle.ext_mean.specs.declared.token.Token.{Token}
 use Rattle.ext_mean.specs.Canonical.{Shown, shown, expression_shown, statement_shown, sentence_shown, block_shown}
 

@@ -4,7 +4,6 @@ use Rattle.ext_mean.specs.declared.borrowing.Variable.{Variable}
 use Rattle.ext_mean.specs.declared.borrowing.Origin.{Origin}
 use Rattle.ext_mean.specs.declared.borrowing.Origin.TheVariants as origin
 use Rattle.ext_mean.specs.declared.borrowing.Gift.{Gift}
-use Rattle.ext_mean.specs.declared.statement.Kind.TheVariants as kind
 use Rattle.ext_mean.specs.declared.statement.Statement.{Statement}
 use Rattle.ext_mean.specs.declared.statement.Block.{Block}
 use Rattle.ext_mean.specs.declared.statement.Statement.TheOpen.{Statement-F, Block-F}

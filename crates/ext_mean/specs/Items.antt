@@ -3,7 +3,7 @@
 use Rattle.std.specs.Prelude.{ℕ, ◌+◌, Bool, true, false, List, [], ◌∷◌, Option, Some, None}
 use Rattle.ext_mean.specs.declared.statement.Statement.{Statement}
 use Rattle.ext_mean.specs.declared.statement.Block.{Block}
-use Rattle.ext_mean.specs.declared.statement.Statement.TheOpen.{Statement-F, Block-F}
+use Rattle.ext_mean.specs.declared.statement.Statement.TheOpen.{Statement-F}
 use Rattle.ext_mean.specs.declared.statement.Statement.TheViews.{out-Statement, out-Block}
 
 -- the first fault found, after one more item

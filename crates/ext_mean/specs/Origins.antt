@@ -1,10 +1,9 @@
 -- Where slices come from: variables by their declarations, and what an expression may borrow from.
-use Rattle.std.specs.Prelude.{ℕ, ◌+◌, ◌==◌, Bool, true, false, ◌||◌, List, [], ◌∷◌, ◌++◌, Option, Some, None, slice_get, unwrap_or, if◌then◌else◌}
+use Rattle.std.specs.Prelude.{ℕ, Bool, false, ◌||◌, List, [], ◌∷◌, Option, Some, None, slice_get, unwrap_or, if◌then◌else◌}
 use Rattle.std.specs.Str.{bytes_eq}
 use Rattle.ext_mean.specs.declared.borrowing.Variable.{Variable}
 use Rattle.ext_mean.specs.declared.borrowing.Origin.{Origin}
 use Rattle.ext_mean.specs.declared.borrowing.Origin.TheVariants as origin
-use Rattle.ext_mean.specs.declared.statement.Kind.{Kind}
 use Rattle.ext_mean.specs.declared.statement.Kind.TheVariants as kind
 use Rattle.ext_mean.specs.declared.expr.Expr.{Expr}
 use Rattle.ext_mean.specs.declared.expr.Expr.TheOpen.{Expr-F}

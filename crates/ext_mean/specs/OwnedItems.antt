@@ -1,13 +1,12 @@
 -- Ownership of single items: buffers that are gone, frozen, borrowed for too long, or moved and
 -- borrowed by one call. Buffers that are gone are marked, by the numbers of variables.
-use Rattle.std.specs.Prelude.{ℕ, ◌+◌, ◌==◌, Bool, true, false, not, ◌&&◌, ◌||◌, List, [], ◌∷◌, ◌++◌, map, length, replicate, Option, Some, None, slice_get, slice_set, unwrap_or, nat_lt, if◌then◌else◌}
+use Rattle.std.specs.Prelude.{ℕ, ◌+◌, Bool, true, false, not, ◌&&◌, ◌||◌, List, [], ◌∷◌, length, replicate, Option, Some, None, slice_get, slice_set, unwrap_or, nat_lt}
 use Rattle.std.specs.List.{list_any, zip}
 use Rattle.ext_mean.specs.declared.check_codes.BorrowCode.{BorrowCode}
 use Rattle.ext_mean.specs.declared.check_codes.BorrowCode.TheVariants as code
 use Rattle.ext_mean.specs.declared.borrowing.Variable.{Variable}
 use Rattle.ext_mean.specs.declared.borrowing.Origin.{Origin}
 use Rattle.ext_mean.specs.declared.expr.Expr.{Expr}
-use Rattle.ext_mean.specs.declared.statement.Statement.TheOpen.{Statement-F}
 use Rattle.ext_mean.specs.Origins.{variable_named, origin_of, moved_by, is_marked, any_marked, views}
 use Rattle.ext_mean.specs.Borrowing.{borrows, may_borrow}
 

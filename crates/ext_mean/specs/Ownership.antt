@@ -1,9 +1,7 @@
 -- Ownership of a whole program: the codes of its items in text order, and its first faulty item.
 -- The marks of the buffers that are gone are followed through the text.
-use Rattle.std.specs.Prelude.{◌≡◌, ℕ, ◌+◌, ◌-◌, Bool, true, false, ◌||◌, List, [], ◌∷◌, ◌++◌, map, length, replicate, Option, Some, None, if◌then◌else◌}
+use Rattle.std.specs.Prelude.{◌≡◌, ℕ, ◌-◌, Bool, false, ◌||◌, List, [], ◌∷◌, ◌++◌, length, replicate, Option, Some, None, if◌then◌else◌}
 use Rattle.ext_mean.specs.declared.check_codes.BorrowCode.{BorrowCode}
-use Rattle.ext_mean.specs.declared.borrowing.Variable.{Variable}
-use Rattle.ext_mean.specs.declared.borrowing.Origin.{Origin}
 use Rattle.ext_mean.specs.declared.expr.Expr.{Expr}
 use Rattle.ext_mean.specs.declared.statement.Statement.{Statement}
 use Rattle.ext_mean.specs.declared.statement.Block.{Block}

@@ -1,19 +1,14 @@
--- Typing: the code of each item of a program, in text order, and the first faulty item.
-use Rattle.std.specs.Prelude.{◌≡◌, ℕ, zero, suc, ◌+◌, ◌==◌, Bool, true, false, not, ◌&&◌, ◌||◌, List, [], ◌∷◌, ◌++◌, length, take, Option, Some, None, is_some, is_none, Result, Ok, Err, codes, if◌then◌else◌}
+-- Types of items: the code of a statement's own item, for the variables in scope.
+use Rattle.std.specs.Prelude.{ℕ, List, [], ◌∷◌, Option, Some, None, is_none, Result, if◌then◌else◌}
 use Rattle.std.specs.Str.{bytes_eq}
 use Rattle.ext_mean.specs.declared.check_codes.TypeCode.{TypeCode}
 use Rattle.ext_mean.specs.declared.check_codes.TypeCode.TheVariants as code
 use Rattle.ext_mean.specs.declared.statement.Kind.{Kind}
 use Rattle.ext_mean.specs.declared.statement.Kind.TheVariants as kind
 use Rattle.ext_mean.specs.declared.expr.Expr.{Expr}
-use Rattle.ext_mean.specs.declared.statement.Statement.{Statement}
-use Rattle.ext_mean.specs.declared.statement.Block.{Block}
-use Rattle.ext_mean.specs.declared.statement.Statement.TheOpen.{Statement-F, Block-F}
-use Rattle.ext_mean.specs.declared.statement.Statement.TheFolds.{fold-Statement, fold-Block}
+use Rattle.ext_mean.specs.declared.statement.Statement.TheOpen.{Statement-F}
 use Rattle.ext_mean.specs.declared.tree.Param.{Param}
 use Rattle.ext_mean.specs.declared.tree.Function.{Function}
-use Rattle.ext_mean.specs.declared.tree.Program.{Program}
-use Rattle.ext_mean.specs.Items.{first_fault}
 use Rattle.ext_mean.specs.Types.{earlier, same_kind, kind_of, unless, untyped, asks, asks_buffer, type_of}
 
 -- where an item stands: the program's functions, those declared before its own, and the result that

@@ -91,6 +91,8 @@ pub fn share_answer(alloc: Global, message: &Answer) -> Result<Answer, Memory>
 
 /// A body spells one message at most.
 pub fn one_message()
-    ensures requests { (body : List ℕ) (m n : Request) → SpellsRequest body m → SpellsRequest body n → m ≡ n }
-    ensures answers { (body : List ℕ) (m n : Answer) → SpellsAnswer body m → SpellsAnswer body n → m ≡ n }
+    ensures requests { (body : List ℕ) (m n : Request) →
+        SpellsRequest body m → SpellsRequest body n → m ≡ n }
+    ensures answers { (body : List ℕ) (m n : Answer) →
+        SpellsAnswer body m → SpellsAnswer body n → m ≡ n }
 {}
