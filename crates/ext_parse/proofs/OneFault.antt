@@ -208,7 +208,7 @@ compared : (m n : ℕ) → Compared m n
 compared m n =
     elim (cases_lt m n) [
       | inl below ↦ less below
-      | inr above ↦ elim (cases_lt n m) [ | inl below ↦ more below | inr over ↦ equal (omega arith) ]
+      | inr above ↦ elim (cases_lt n m) [ inl below ↦ more below | inr over ↦ equal (omega arith) ]
     ]
 
 inside-so : (text : List ℕ) (line other : ℕ) (which another : SyntaxCode) (first : Inside text line which) (second : Inside text other another)

@@ -7,6 +7,7 @@ use Rattle.ext_mean.specs.declared.codes.SyntaxCode.TheVariants as code
 use Rattle.ext_mean.specs.declared.refusal.Refusal.TheVariants as refusal
 use Rattle.ext_mean.specs.SyntaxFaults.{large}
 use Rattle.ext_check.specs.Checking.{by_syntax}
+use Rattle.ext_check.proofs.OneRefusal.{one-refusal}
 use Rattle.splinter.specs.declared.status.Status.{Status}
 use Rattle.splinter.specs.declared.status.Status.TheVariants as status
 use Rattle.splinter.specs.Checks.{Checks, IsRefusal, IsVerdict, refused_line}
@@ -55,6 +56,7 @@ too-long input more = record {
   line = 1;
   which = refusal.Syntax code.Long;
   refused = by_syntax (large more);
+  one = λ other another refused. one-refusal input other 1 another (refusal.Syntax code.Long) refused (by_syntax (large more));
   none = λ program accepted. absurd (omega (arith, more, accepted.spelled.1.reading.size));
   text_is = long-line;
 }

@@ -16,3 +16,4 @@ pub mod Refusing
 pub mod Lists
 pub mod Checked
 pub mod Judging
+pub mod OneText

@@ -33,6 +33,7 @@ pub record IsRefusal (input text : List ℕ) : Type 0 where
   pub line : ℕ
   pub which : Refusal
   pub refused : IsRefused input line which
+  pub one : (other : ℕ) (another : Refusal) → IsRefused input other another → (other ≡ line) × (another ≡ which)
   pub none : (program : Program) → IsAccepted input program → ⊥
   pub text_is : text ≡ refused_line line which
 

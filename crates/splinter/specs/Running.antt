@@ -28,6 +28,15 @@ IsNoScript input = (script : Script) → IsInputOf input script → ⊥
 abbrev pub refusal : List ℕ
 refusal = codes "script 0 NotYet" ++ 10 ∷ []
 
+-- no other script has the input, and the script has no other play
+abbrev pub IsOnlyScript : List ℕ → Script → Type 0
+IsOnlyScript input script = (other : Script) → IsInputOf input other → other ≡ script
+
+abbrev pub PlaysOnly : Script → List Answer → List Entry → Type 0
+PlaysOnly script answers journal =
+    (others : List Answer) (another : List Entry) → Plays script others another →
+    (others ≡ answers) × (another ≡ journal)
+
 -- The text is the answers and the journal of the play of the input's script, and the journal is one
 -- legal history: each committed call is what its source means alone on the tables then standing, each
 -- caller's calls stand once and in order, and no ungranted table is read or written.
@@ -40,6 +49,8 @@ pub record IsPlayed (input text : List ℕ) : Type 0 where
   pub legal : Legal (grants_of script) journal
   pub in_order : InOrder journal
   pub within : Within (grants_of script) journal
+  pub one : IsOnlyScript input script
+  pub alone : PlaysOnly script answers journal
   pub text_is : text ≡ play_text answers journal
 
 -- the text of an input

@@ -58,6 +58,7 @@ pub fn check_command<S: Source, K: Sink>(alloc: Global, source: &mut S, sink: &m
 }
 
 /// Whether an input is an extension that may run.
+#[tactic(auto, using(crate::proofs::OneText::only_refusal))]
 fn verdict_of(alloc: Global, input: &[u8]) -> Result<Verdict, Memory>
     ensures { IfOk result (λ verdict. IsVerdict input.now verdict.status verdict.text) }
 {
