@@ -1,3 +1,4 @@
 pub mod Growing
 pub mod Versions
 pub mod Committing
+pub mod Verdicts

@@ -5,4 +5,5 @@ pub mod Sizes
 pub mod Legal
 pub mod Verdict
 pub mod Standing
+pub mod Laws
 pub mod Scan

@@ -120,8 +120,7 @@ read_answer book tenant table key =
     then read.Found (item_at book.journal table key)
     else read.Denied
 
--- Which answers take memory: each refusal is decided before any memory is asked for, but that a
--- Conflict tells the key of its read.
+-- which answers take memory: each refusal is decided before any memory is asked for
 abbrev pub ReadTakesMemory : Read → Type 0
 ReadTakesMemory (read.Found item) = Unit {0}
 ReadTakesMemory _ = ⊥
@@ -136,5 +135,4 @@ InstallTakesMemory _ = ⊥
 
 abbrev pub CommitTakesMemory : Commit → Type 0
 CommitTakesMemory (Committed n outcome) = Unit {0}
-CommitTakesMemory (Conflict table key read read_at now now_at) = Unit {0}
 CommitTakesMemory _ = ⊥

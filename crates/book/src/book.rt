@@ -16,7 +16,7 @@ use crate::ext::Ext;
 use crate::finished::Finished;
 use crate::found::record_at;
 use crate::grants::Grants;
-use crate::scan::{first_moved, last_number, text_count, without_values};
+use crate::scan::{first_moved, last_number, nth_read, text_count, without_values};
 use crate::size::entry_size;
 use crate::{MOST_BYTES, MOST_ENTRIES};
 use sp_base::{Blob, Caller, ExtNo, Key, Level, Memory, ReadItem, Rights, TableId, TenantId};
@@ -217,7 +217,7 @@ impl Book {
             (entry_of done.call done.outcome done.writes done.reads) done.outcome done.reads) }
         ensures book { self.new ≡ after_commit result self.old
             (entry_of done.call done.outcome done.writes done.reads) }
-        // Stale and Full come before want of memory.
+        // A refusal comes before want of memory.
         ensures memory { result ≡ Commit.Memory → CommitTakesMemory (verdict self.old done.call
             (entry_of done.call done.outcome done.writes done.reads) done.outcome done.reads) }
     {
@@ -228,28 +228,25 @@ impl Book {
                 at: self.len(),
             };
         }
-        if let Some(read) = first_moved(self.entries.as_slice(), done.reads.as_slice()) {
-            return self.conflict(read);
+        if let Some(index) = first_moved(self.entries.as_slice(), done.reads.as_slice()) {
+            let Finished { reads, .. } = done;
+            return self.conflict(nth_read(reads, index));
         }
         self.settle(done)
     }
 
-    fn conflict(&self, read: &ReadItem) -> Commit
-        ensures { (result ≡ Commit.Memory) ⊎ (result ≡ Commit.Conflict read.now.table read.now.key
-            read.now.version read.now.read_at (version_of self.now.journal (place_of read.now))
-            (length self.now.journal)) }
+    fn conflict(&self, moved: ReadItem) -> Commit
+        ensures { result ≡ Commit.Conflict moved.table moved.key moved.version moved.read_at
+            (version_of self.now.journal (place_of moved)) (length self.now.journal) }
     {
-        let now = record_at(self.entries.as_slice(), read.table, &read.key).version;
-        match read.key.share(self.alloc) {
-            Ok(key) => Commit::Conflict {
-                table: read.table,
-                key,
-                read: read.version,
-                read_at: read.read_at,
-                now,
-                now_at: self.len(),
-            },
-            Err(Memory) => Commit::Memory,
+        let now = record_at(self.entries.as_slice(), moved.table, &moved.key).version;
+        Commit::Conflict {
+            table: moved.table,
+            read: moved.version,
+            read_at: moved.read_at,
+            key: moved.key,
+            now,
+            now_at: self.len(),
         }
     }
 

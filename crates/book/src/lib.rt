@@ -12,6 +12,7 @@ mod ext;
 mod finished;
 mod found;
 mod grants;
+mod laws;
 mod scan;
 mod size;
 
@@ -21,6 +22,7 @@ pub use entry::{Entry, Home};
 pub use ext::Ext;
 pub use finished::Finished;
 pub use grants::Grants;
+pub use laws::{conflicts_name_moved_reads, legal_killed_are_spent};
 pub use scan::text_count;
 pub use size::entry_size;
 

@@ -1,7 +1,6 @@
 //! What a journal says of callers, tenants and reads, worked out from its first entry on.
 
-ghost use Rattle.std.specs.Prelude.{◌≡◌, ◌≤◌, length, map};
-ghost use Rattle.std.specs.Option.{option_copied};
+ghost use Rattle.std.specs.Prelude.{◌≡◌, ◌≤◌, ◌<◌, Some, None, IfSome, IfNone, length, map, slice_get};
 ghost use Rattle.book.specs.Folds.{texts_of, last_of};
 ghost use Rattle.book.specs.Verdict.{moved, without_value};
 
@@ -44,16 +43,27 @@ pub fn text_count(entries: &[Entry], tenant: TenantId) -> usize
     count
 }
 
-/// The first read whose version has moved.
-pub fn first_moved<'a>(entries: &[Entry], reads: &'a [ReadItem]) -> Option<&'a ReadItem>
-    ensures { option_copied result ≡ moved entries.now reads.now }
+/// The index of the first read whose version has moved.
+pub fn first_moved(entries: &[Entry], reads: &[ReadItem]) -> Option<usize>
+    ensures found { IfSome result (λ index. slice_get reads.now index ≡ moved entries.now reads.now) }
+    ensures within { IfSome result (λ index. index < length reads.now) }
+    ensures none { IfNone result (moved entries.now reads.now ≡ None) }
 {
-    for read in reads {
+    for (index, read) in reads.iter().enumerate() {
         if record_at(entries, read.table, &read.key).version != read.version {
-            return Some(read);
+            return Some(index);
         }
     }
     None
+}
+
+/// The read with this index.
+pub fn nth_read(reads: Reads, index: usize) -> ReadItem
+    requires { index < length reads }
+    ensures { slice_get reads index ≡ Some result }
+{
+    let mut items = reads.into_vec();
+    items.swap_remove(index)
 }
 
 /// The reads as an entry keeps them: without their values.

@@ -16,4 +16,5 @@ pub mod Refusing
 pub mod Lists
 pub mod Checked
 pub mod Judging
+pub mod Conflicts
 pub mod OneText

@@ -19,6 +19,8 @@ use Rattle.splinter.specs.Play.{GoesOn, Ended, Drains, last_turn, more_turns, Pl
 use Rattle.splinter.specs.Lines.{play_text}
 use Rattle.splinter.specs.Running.{IsPlayed, most_script}
 use Rattle.splinter.specs.Script.{Spells}
+use Rattle.book.proofs.Verdicts.{legal-killed-are-spent}
+use Rattle.splinter.proofs.Conflicts.{plays-moved}
 use Rattle.splinter.proofs.ScriptLaws.{script_again}
 
 goes-or-ends : (line other : Line) (next : Live) (after : BookValue) → Ended line after ≡ GoesOn other next → ⊥
@@ -64,19 +66,23 @@ scripts-one input one other first second =
 pub played : (input text : List ℕ) (script : Script) (answers shown : List Answer) (book : BookValue) (entries : List Entry)
     → length input ≤ most_script → Spells input script → Plays script answers book.journal → book.grants ≡ grants_of script → IsSound book
     → shown ≡ answers → entries ≡ book.journal → text ≡ play_text shown entries → IsPlayed input text
-played input text script answers shown book entries short spelled plays grants sound same whole is = record {
-  script = script;
-  answers = answers;
-  journal = book.journal;
-  spelled = record { short = short; spelled = spelled };
-  plays = plays;
-  legal = subst (λ granted. Legal granted book.journal) grants sound.legal;
-  in_order = sound.in_order;
-  within = subst (λ granted. Within granted book.journal) grants sound.within;
-  one = λ other has. scripts-one input other script has.spelled spelled;
-  alone = λ others another other. plays-one script others answers another book.journal other plays;
-  text_is = is ∙ ap (λ those. play_text those entries) same ∙ ap (λ those. play_text answers those) whole;
-}
+played input text script answers shown book entries short spelled plays grants sound same whole is =
+    let legal : Legal (grants_of script) book.journal = subst (λ granted. Legal granted book.journal) grants sound.legal in
+    record {
+      script = script;
+      answers = answers;
+      journal = book.journal;
+      spelled = record { short = short; spelled = spelled };
+      plays = plays;
+      legal = legal;
+      in_order = sound.in_order;
+      within = subst (λ granted. Within granted book.journal) grants sound.within;
+      conflicts = plays-moved script answers book.journal plays;
+      killed = legal-killed-are-spent (grants_of script) book.journal legal;
+      one = λ other has. scripts-one input other script has.spelled spelled;
+      alone = λ others another other. plays-one script others answers another book.journal other plays;
+      text_is = is ∙ ap (λ those. play_text those entries) same ∙ ap (λ those. play_text answers those) whole;
+    }
 
 pub only_refusal : (input : List ℕ) (line : ℕ) (which : Refusal) → IsRefused input line which → (other : ℕ) (another : Refusal)
     → IsRefused input other another → (other ≡ line) × (another ≡ which)

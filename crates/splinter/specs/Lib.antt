@@ -8,6 +8,7 @@ pub mod Lines
 pub mod Steps
 pub mod Stepping
 pub mod Draining
+pub mod Moved
 pub mod Running
 pub mod Words
 pub mod Checks

@@ -2,12 +2,14 @@
 use Rattle.std.specs.Prelude.{◌≡◌, ◌≤◌, ◌⊎◌, ℕ, List, [], ◌∷◌, ◌++◌, length, codes, Option, Some}
 use Rattle.sp_outside.specs.Writing.{HoldsPrefix}
 use Rattle.book.specs.declared.entry.Entry.{Entry}
+use Rattle.book.specs.Laws.{KilledAreSpent}
 use Rattle.book.specs.Legal.{Legal, InOrder, Within}
 use Rattle.splinter.specs.declared.line.Answer.{Answer}
 use Rattle.splinter.specs.declared.script.Script.{Script}
 use Rattle.splinter.specs.declared.status.Status.{Status}
 use Rattle.splinter.specs.declared.status.Status.TheVariants as status
 use Rattle.splinter.specs.Lines.{play_text}
+use Rattle.splinter.specs.Moved.{ConflictsHaveMoved}
 use Rattle.splinter.specs.Play.{Plays, grants_of}
 use Rattle.splinter.specs.Script.{Spells}
 
@@ -39,7 +41,8 @@ PlaysOnly script answers journal =
 
 -- The text is the answers and the journal of the play of the input's script, and the journal is one
 -- legal history: each committed call is what its source means alone on the tables then standing, each
--- caller's calls stand once and in order, and no ungranted table is read or written.
+-- caller's calls stand once and in order, no ungranted table is read or written, every Conflict names a
+-- read whose version had moved, and every Killed is a spent budget.
 pub record IsPlayed (input text : List ℕ) : Type 0 where
   pub script : Script
   pub answers : List Answer
@@ -49,6 +52,8 @@ pub record IsPlayed (input text : List ℕ) : Type 0 where
   pub legal : Legal (grants_of script) journal
   pub in_order : InOrder journal
   pub within : Within (grants_of script) journal
+  pub conflicts : ConflictsHaveMoved answers
+  pub killed : KilledAreSpent (grants_of script) journal
   pub one : IsOnlyScript input script
   pub alone : PlaysOnly script answers journal
   pub text_is : text ≡ play_text answers journal
