@@ -31,18 +31,6 @@ passes-Get loans scene gone table key some found_block none_block = ap (λ (z : 
 pub passes-Multi : (loans : List (List Bool)) (scene : Scene) (gone : List Bool) (table keys width : Expr) (some : List ℕ) (found_block none_block : Block) → (owned loans (Multi table keys width some found_block none_block)).passes scene gone ≡ again_both (loops scene gone (table ∷ keys ∷ width ∷ [])) gone (owned_block loans found_block (with_arm (with_held scene keys) (length gone) some) (gone ++ false ∷ [])) (owned_block loans none_block (with_held scene keys) (extended gone (owned_block loans found_block (with_arm (with_held scene keys) (length gone) some) (gone ++ false ∷ [])).gone))
 passes-Multi loans scene gone table keys width some found_block none_block = ap (λ (z : Owned). z.passes scene gone) (owned-roll loans (Statement-F.Multi table keys width some found_block none_block) _ (rolls-Multi table keys width some found_block none_block))
 
-pub declares-If : (loans : List (List Bool)) (test : Expr) (true_block false_block : Block) → (owned loans (If test true_block false_block)).declares ≡ []
-declares-If loans test true_block false_block = ap (λ (z : Owned). z.declares) (owned-roll loans (Statement-F.If test true_block false_block) _ (rolls-If test true_block false_block))
-
-pub declares-While : (loans : List (List Bool)) (test : Expr) (body : Block) → (owned loans (While test body)).declares ≡ []
-declares-While loans test body = ap (λ (z : Owned). z.declares) (owned-roll loans (Statement-F.While test body) _ (rolls-While test body))
-
-pub declares-Get : (loans : List (List Bool)) (table key : Expr) (some : List ℕ) (found_block none_block : Block) → (owned loans (Get table key some found_block none_block)).declares ≡ []
-declares-Get loans table key some found_block none_block = ap (λ (z : Owned). z.declares) (owned-roll loans (Statement-F.Get table key some found_block none_block) _ (rolls-Get table key some found_block none_block))
-
-pub declares-Multi : (loans : List (List Bool)) (table keys width : Expr) (some : List ℕ) (found_block none_block : Block) → (owned loans (Multi table keys width some found_block none_block)).declares ≡ []
-declares-Multi loans table keys width some found_block none_block = ap (λ (z : Owned). z.declares) (owned-roll loans (Statement-F.Multi table keys width some found_block none_block) _ (rolls-Multi table keys width some found_block none_block))
-
 -- a statement is a `return` whatever its blocks are seen as
 mapped-return : {A B : Type 0} (f : Statement → A) (g : Block → B) (form : Statement-F Statement Block) → is_return_form (map-Statement Statement Block A B f g form) ≡ is_return_form form
 mapped-return f g (Statement-F.Return value) = refl

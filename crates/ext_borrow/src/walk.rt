@@ -11,7 +11,7 @@ use crate::plain::{
 };
 use crate::state::Walk;
 use crate::table::Row;
-use ext_mean::{Block, Kind, Name, Statement};
+use ext_mean::{Block, Expr, Kind, Name, Statement};
 use sp_base::Memory;
 use std::alloc::Global;
 
@@ -68,6 +68,106 @@ fn pass_arm(
     Ok(())
 }
 
+/// Passes `if test { .. } else { .. }`.
+#[cycle(walk)]
+fn pass_if(
+    alloc: Global,
+    loans: &[Row],
+    walk: &mut Walk,
+    test: &Expr,
+    yes: &Block,
+    no: &Block,
+) -> Result<(), Memory>
+    ensures passes { OnOk result (Passes walk.old walk.new
+        ((owned loans.now (Statement.If test.now yes.now no.now)).passes
+        (seen walk.old.scene) walk.old.gone.items)) }
+    ensures scene { OnOk result (seen walk.new.scene ≡ seen walk.old.scene) }
+{
+    let before = walk.marks(alloc)?;
+    look_once(walk, test)?;
+    pass_block(alloc, loans, walk, yes)?;
+    let first = walk.turn(alloc, before.as_slice())?;
+    pass_block(alloc, loans, walk, no)?;
+    walk.unite(alloc, first.as_slice())
+}
+
+/// Passes `while test { .. }`.
+#[cycle(walk)]
+fn pass_while(
+    alloc: Global,
+    loans: &[Row],
+    walk: &mut Walk,
+    test: &Expr,
+    body: &Block,
+) -> Result<(), Memory>
+    ensures passes { OnOk result (Passes walk.old walk.new
+        ((owned loans.now (Statement.While test.now body.now)).passes
+        (seen walk.old.scene) walk.old.gone.items)) }
+    ensures scene { OnOk result (seen walk.new.scene ≡ seen walk.old.scene) }
+{
+    let before = walk.marks(alloc)?;
+    let place = walk.enter()?;
+    pass_block(alloc, loans, walk, body)?;
+    leave_while(alloc, walk, place, before.as_slice(), test)
+}
+
+/// Passes `get(table, key)` with its arms, of which the first names the record.
+#[cycle(walk)]
+fn pass_get(
+    alloc: Global,
+    loans: &[Row],
+    walk: &mut Walk,
+    operands: (&Expr, &Expr),
+    arms: (&Name, &Block, &Block),
+) -> Result<(), Memory>
+    ensures passes { OnOk result (Passes walk.old walk.new
+        ((owned loans.now (Statement.Get operands.entry.0.now operands.entry.1.now
+        arms.entry.0.now arms.entry.1.now arms.entry.2.now)).passes
+        (seen walk.old.scene) walk.old.gone.items)) }
+    ensures scene { OnOk result (seen walk.new.scene ≡ seen walk.old.scene) }
+{
+    let (table, key) = operands;
+    let (some, yes, no) = arms;
+    let before = walk.marks(alloc)?;
+    look_twice(walk, table, key)?;
+    pass_arm(alloc, loans, walk, some, yes)?;
+    let first = walk.turn(alloc, before.as_slice())?;
+    pass_block(alloc, loans, walk, no)?;
+    walk.unite(alloc, first.as_slice())
+}
+
+/// Passes `multiget(table, keys, width)` with its arms, of which the first names each record.
+#[cycle(walk)]
+fn pass_multiget(
+    alloc: Global,
+    loans: &[Row],
+    walk: &mut Walk,
+    operands: (&Expr, &Expr, &Expr),
+    arms: (&Name, &Block, &Block),
+) -> Result<(), Memory>
+    ensures passes { OnOk result (Passes walk.old walk.new
+        ((owned loans.now (Statement.Multi operands.entry.0.now operands.entry.1.now
+        operands.entry.2.now arms.entry.0.now arms.entry.1.now arms.entry.2.now)).passes
+        (seen walk.old.scene) walk.old.gone.items)) }
+    ensures scene { OnOk result (seen walk.new.scene ≡ seen walk.old.scene) }
+{
+    let (some, yes, no) = arms;
+    let before = walk.marks(alloc)?;
+    let place = walk.enter()?;
+    hold(walk, operands.1)?;
+    pass_arm(alloc, loans, walk, some, yes)?;
+    let first = walk.turn(alloc, before.as_slice())?;
+    pass_block(alloc, loans, walk, no)?;
+    leave_multiget(
+        alloc,
+        walk,
+        place,
+        before.as_slice(),
+        first.as_slice(),
+        operands,
+    )
+}
+
 /// Passes a statement's items, and brings into scope what it declares.
 #[cycle(walk)]
 #[tactic(auto, unfolding(ext_mean::specs::Ownership::owned))]
@@ -91,34 +191,15 @@ fn pass_statement(
             ..
         } => pass_call(alloc, loans, walk, (name, *kind), args.as_slice()),
         Statement::Assign { name, value } => pass_assign(loans, walk, name, value),
-        Statement::If { test, yes, no } => {
-            let before = walk.marks(alloc)?;
-            look_once(walk, test)?;
-            pass_block(alloc, loans, walk, yes)?;
-            let first = walk.turn(alloc, before.as_slice())?;
-            pass_block(alloc, loans, walk, no)?;
-            walk.unite(alloc, first.as_slice())
-        }
-        Statement::While { test, body } => {
-            let before = walk.marks(alloc)?;
-            let place = walk.enter()?;
-            pass_block(alloc, loans, walk, body)?;
-            leave_while(alloc, walk, place, before.as_slice(), test)
-        }
+        Statement::If { test, yes, no } => pass_if(alloc, loans, walk, test, yes, no),
+        Statement::While { test, body } => pass_while(alloc, loans, walk, test, body),
         Statement::Get {
             table,
             key,
             some,
             yes,
             no,
-        } => {
-            let before = walk.marks(alloc)?;
-            look_twice(walk, table, key)?;
-            pass_arm(alloc, loans, walk, some, yes)?;
-            let first = walk.turn(alloc, before.as_slice())?;
-            pass_block(alloc, loans, walk, no)?;
-            walk.unite(alloc, first.as_slice())
-        }
+        } => pass_get(alloc, loans, walk, (table, key), (some, yes, no)),
         Statement::Multi {
             table,
             keys,
@@ -126,26 +207,9 @@ fn pass_statement(
             some,
             yes,
             no,
-        } => {
-            let before = walk.marks(alloc)?;
-            let place = walk.enter()?;
-            hold(walk, keys)?;
-            pass_arm(alloc, loans, walk, some, yes)?;
-            let first = walk.turn(alloc, before.as_slice())?;
-            pass_block(alloc, loans, walk, no)?;
-            let operands = (table, keys, width);
-            leave_multiget(
-                alloc,
-                walk,
-                place,
-                before.as_slice(),
-                first.as_slice(),
-                operands,
-            )
-        }
-        Statement::Set { name, place, value } | Statement::Set8 { name, place, value } => {
-            pass_set(loans, walk, name, (place, value))
-        }
+        } => pass_multiget(alloc, loans, walk, (table, keys, width), (some, yes, no)),
+        Statement::Set { name, place, value } => pass_set(loans, walk, name, (place, value)),
+        Statement::Set8 { name, place, value } => pass_set(loans, walk, name, (place, value)),
         Statement::Copy {
             name,
             place,
