@@ -1,5 +1,6 @@
 ghost use Rattle.std.specs.Prelude.{◌≡◌};
-ghost use Rattle.ext_mean.specs.Types.{type_of, operator_type, asks_equal, asks_both};
+ghost use Rattle.ext_mean.specs.declared.statement.Kind.TheVariants as kind;
+ghost use Rattle.ext_mean.specs.Types.{type_of, operator_type, asks, asks_equal, asks_both, earlier};
 
 use crate::codes::{asks, earlier, gives, untyped};
 use crate::scope::{asks_buffer, kind_of, variable_type};
@@ -26,6 +27,18 @@ fn asks_both(
     ensures { result ≡ asks_both wanted left right }
 {
     earlier(asks(wanted, left), asks(wanted, right))
+}
+
+/// A slice and two ints.
+fn asks_slice_and_ints(
+    bytes: Result<Kind, TypeCode>,
+    first: Result<Kind, TypeCode>,
+    second: Result<Kind, TypeCode>,
+) -> Option<TypeCode>
+    ensures { result ≡ earlier (asks kind.Slice bytes) (asks_both kind.Int first second) }
+{
+    let code = asks(Kind::Slice, bytes);
+    earlier(code, asks_both(Kind::Int, first, second))
 }
 
 /// The type of an operator, with the types of its operands.
@@ -69,22 +82,16 @@ pub fn type_of(scope: &[Param], expression: &Expr) -> Result<Kind, TypeCode>
             )
         }
         Expr::Sub(bytes, from, count) => {
-            let bytes = asks(Kind::Slice, type_of(scope, bytes.get()));
-            let range = asks_both(
-                Kind::Int,
-                type_of(scope, from.get()),
-                type_of(scope, count.get()),
-            );
-            gives(Kind::Slice, earlier(bytes, range))
+            let bytes = type_of(scope, bytes.get());
+            let from = type_of(scope, from.get());
+            let count = type_of(scope, count.get());
+            gives(Kind::Slice, asks_slice_and_ints(bytes, from, count))
         }
         Expr::Alloc(table, key, size) => {
-            let key = asks(Kind::Slice, type_of(scope, key.get()));
-            let numbers = asks_both(
-                Kind::Int,
-                type_of(scope, table.get()),
-                type_of(scope, size.get()),
-            );
-            gives(Kind::Buf, earlier(key, numbers))
+            let key = type_of(scope, key.get());
+            let table = type_of(scope, table.get());
+            let size = type_of(scope, size.get());
+            gives(Kind::Buf, asks_slice_and_ints(key, table, size))
         }
         Expr::Not(test) => gives(Kind::Bool, asks(Kind::Bool, type_of(scope, test.get()))),
         Expr::Bin(operator, left, right) => operator_type(
