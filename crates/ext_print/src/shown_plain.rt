@@ -198,8 +198,53 @@ fn show_listed(alloc: Global, tokens: &mut Items<Token>, args: &[Expr]) -> Resul
     Ok(())
 }
 
+/// Adds `set(name, place, value);`.
+pub fn show_set(
+    alloc: Global,
+    tokens: &mut Items<Token>,
+    name: &Name,
+    place: &Expr,
+    value: &Expr,
+) -> Result<(), Memory>
+    ensures { OnOk result (tokens.new ≡ tokens.old
+        ++ (canon.with_three Word.Set (token.Name name.now ∷ []) (canon.expression_tokens place.now)
+        (canon.expression_tokens value.now) ++ wording.semicolon ∷ [])) }
+{
+    show_write(alloc, tokens, Word::Set, name, place, value)
+}
+
+/// Adds `set8(name, place, value);`.
+pub fn show_set8(
+    alloc: Global,
+    tokens: &mut Items<Token>,
+    name: &Name,
+    place: &Expr,
+    value: &Expr,
+) -> Result<(), Memory>
+    ensures { OnOk result (tokens.new ≡ tokens.old
+        ++ (canon.with_three Word.Set8 (token.Name name.now ∷ []) (canon.expression_tokens place.now)
+        (canon.expression_tokens value.now) ++ wording.semicolon ∷ [])) }
+{
+    show_write(alloc, tokens, Word::Set8, name, place, value)
+}
+
+/// Adds `copy(name, place, source);`.
+pub fn show_copy(
+    alloc: Global,
+    tokens: &mut Items<Token>,
+    name: &Name,
+    place: &Expr,
+    source: &Expr,
+) -> Result<(), Memory>
+    ensures { OnOk result (tokens.new ≡ tokens.old
+        ++ (canon.with_three Word.Copy (token.Name name.now ∷ []) (canon.expression_tokens place.now)
+        (canon.expression_tokens source.now) ++ wording.semicolon ∷ [])) }
+{
+    show_write(alloc, tokens, Word::Copy, name, place, source)
+}
+
 /// Adds a write into a buffer.
-pub fn show_write(
+fn show_write(
     alloc: Global,
     tokens: &mut Items<Token>,
     word: Word,

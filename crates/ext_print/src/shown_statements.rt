@@ -2,14 +2,12 @@
 
 ghost use Rattle.std.specs.Prelude.{◌≡◌, ◌++◌, OnOk, [], ◌∷◌};
 ghost use Rattle.ext_mean.specs.Canonical as canon;
-ghost use Rattle.ext_mean.specs.declared.statement.Statement.TheViews.{out-Statement};
 ghost use Rattle.ext_mean.specs.declared.token.Token.TheVariants as token;
-ghost use Rattle.ext_print.specs.Look.{look_shown};
 
 use crate::shown_expressions::{show_expression, show_three, show_two};
 use crate::shown_plain::{
-    show_assign, show_del, show_let, show_let_call, show_mark, show_none, show_put, show_resp,
-    show_return, show_some, show_word, show_write,
+    show_assign, show_copy, show_del, show_let, show_let_call, show_mark, show_none, show_put,
+    show_resp, show_return, show_set, show_set8, show_some, show_word,
 };
 use ext_mean::{Block, Expr, Mark, Name, Statement, Token, Word};
 use sp_base::Memory;
@@ -42,29 +40,36 @@ fn show_statement(
     match statement {
         Statement::If { test, yes, no } => show_if(alloc, tokens, test, yes, no),
         Statement::While { test, body } => show_while(alloc, tokens, test, body),
-        Statement::Get { some, yes, no, .. } | Statement::Multi { some, yes, no, .. } => {
-            show_look(alloc, tokens, statement)?;
-            show_arms(alloc, tokens, some, yes, no)
-        }
+        Statement::Get {
+            table,
+            key,
+            some,
+            yes,
+            no,
+        } => show_get(alloc, tokens, (table, key), some, yes, no),
+        Statement::Multi {
+            table,
+            keys,
+            width,
+            some,
+            yes,
+            no,
+        } => show_multiget(alloc, tokens, (table, keys, width), some, yes, no),
         Statement::Let { name, kind, value } => show_let(alloc, tokens, name, *kind, value),
         Statement::LetCall {
             name,
             kind,
             function,
             args,
-        } => { show_let_call(alloc, tokens, name, *kind, function, args.as_slice()) }
+        } => show_let_call(alloc, tokens, name, *kind, function, args.as_slice()),
         Statement::Assign { name, value } => show_assign(alloc, tokens, name, value),
-        Statement::Set { name, place, value } => {
-            show_write(alloc, tokens, Word::Set, name, place, value)
-        }
-        Statement::Set8 { name, place, value } => {
-            show_write(alloc, tokens, Word::Set8, name, place, value)
-        }
+        Statement::Set { name, place, value } => show_set(alloc, tokens, name, place, value),
+        Statement::Set8 { name, place, value } => show_set8(alloc, tokens, name, place, value),
         Statement::Copy {
             name,
             place,
             source,
-        } => { show_write(alloc, tokens, Word::Copy, name, place, source) }
+        } => show_copy(alloc, tokens, name, place, source),
         Statement::Put { name } => show_put(alloc, tokens, name),
         Statement::Del { table, key } => show_del(alloc, tokens, table, key),
         Statement::Resp { value } => show_resp(alloc, tokens, value),
@@ -106,20 +111,44 @@ fn show_while(
     show_block(alloc, tokens, body)
 }
 
-/// Adds a read before its arms, and nothing of another statement.
-fn show_look(alloc: Global, tokens: &mut Items<Token>, statement: &Statement) -> Result<(), Memory>
-    ensures { OnOk result (tokens.new ≡ tokens.old ++ look_shown (out-Statement statement.now)) }
+/// Adds `get` of a table and a key, with its arms.
+#[cycle(shown_block)]
+fn show_get(
+    alloc: Global,
+    tokens: &mut Items<Token>,
+    operands: (&Expr, &Expr),
+    some: &Name,
+    yes: &Block,
+    no: &Block,
+) -> Result<(), Memory>
+    ensures { OnOk result (tokens.new ≡ tokens.old
+        ++ (canon.with_two Word.Get (canon.expression_tokens operands.entry.0.now)
+        (canon.expression_tokens operands.entry.1.now)
+        ++ canon.arms_shown some.now (canon.block_shown yes.now) (canon.block_shown no.now))) }
 {
-    match statement {
-        Statement::Get { table, key, .. } => show_two(alloc, tokens, Word::Get, table, key),
-        Statement::Multi {
-            table,
-            keys,
-            width,
-            ..
-        } => show_three(alloc, tokens, Word::Multiget, table, keys, width),
-        _ => Ok(()),
-    }
+    let (table, key) = operands;
+    show_two(alloc, tokens, Word::Get, table, key)?;
+    show_arms(alloc, tokens, some, yes, no)
+}
+
+/// Adds `multiget` of a table, keys and a width, with its arms.
+#[cycle(shown_block)]
+fn show_multiget(
+    alloc: Global,
+    tokens: &mut Items<Token>,
+    operands: (&Expr, &Expr, &Expr),
+    some: &Name,
+    yes: &Block,
+    no: &Block,
+) -> Result<(), Memory>
+    ensures { OnOk result (tokens.new ≡ tokens.old
+        ++ (canon.with_three Word.Multiget (canon.expression_tokens operands.entry.0.now)
+        (canon.expression_tokens operands.entry.1.now) (canon.expression_tokens operands.entry.2.now)
+        ++ canon.arms_shown some.now (canon.block_shown yes.now) (canon.block_shown no.now))) }
+{
+    let (table, keys, width) = operands;
+    show_three(alloc, tokens, Word::Multiget, table, keys, width)?;
+    show_arms(alloc, tokens, some, yes, no)
 }
 
 /// Adds `else` with its block, unless that is empty.

@@ -1,16 +1,13 @@
--- A block shows its statements, an empty one no `else`, and a read what it asks for and its arms.
-use Rattle.std.proofs.Common.{◌≡◌, ◌∷◌, [], ◌++◌, ◌∙◌, sym, ap, map, drop, arith, true, inl, inr}
+-- A block shows its statements, and an empty one no `else`.
+use Rattle.std.proofs.Common.{◌≡◌, ◌∷◌, [], ◌∙◌, sym, ap, map, drop, arith, true}
 use Rattle.std.specs.List.{flat_map}
 use Rattle.std.proofs.lemmas.Grind.{common_steps}
 use Rattle.std.proofs.lemmas.List.{at_drop_all}
 use Rattle.ext_mean.specs.declared.token.Word.TheVariants as word
 use Rattle.ext_mean.specs.declared.token.Token.TheVariants as token
-use Rattle.ext_mean.specs.declared.statement.Statement.TheViews.{out-Statement}
-use Rattle.ext_mean.specs.Canonical.{sentence_shown, block_shown, else_shown, braced, arms_shown}
+use Rattle.ext_mean.specs.Canonical.{sentence_shown, block_shown, else_shown, braced}
 use Rattle.ext_mean.proofs.CanonicalForms.{block-items}
-use Rattle.ext_print.specs.Look.{look_shown}
 use Rattle.ext_print.proofs.Blocks.{else-none, else-some}
-use Rattle.ext_print.proofs.LookForms.{look-Get, look-Multi}
 use Rattle.ext_print.proofs.shown_statements.+shown_block.Goals as goal
 
 pub show_block-returns : goal.show_block-returns
@@ -33,12 +30,3 @@ show_else-returns t c =
     let some : else_shown (block_shown c.args.block.now) ≡ token.Word word.Else ∷ braced (block_shown c.args.block.now) =
     else-some c.args.block.now (λ e. let full : c.is_empty.result ≡ true = c.is_empty.ensures.1 e in cc) in
     rw some (grind (arith, common_steps))
-
-pub show_statement-returns-in_ok-show_look-in-Get :
-    goal.show_statement-returns-in_ok-show_look-in-Get
-show_statement-returns-in_ok-show_look-in-Get t c =
-    let whole : sentence_shown c.args.statement.now ≡ look_shown (out-Statement c.args.statement.now) ++ arms_shown c.in-Get.some (block_shown c.in-Get.yes) (block_shown c.in-Get.no) = elim c.in-Get.is [
-      | inl w ↦ rw w.2 (look-Get w.0 w.1 c.in-Get.some c.in-Get.yes c.in-Get.no)
-      | inr w ↦ rw w.3 (look-Multi w.0 w.1 w.2 c.in-Get.some c.in-Get.yes c.in-Get.no)
-    ] in
-    rw whole (grind (arith, common_steps, c.in_ok-show_look-in-Get.ensures))

@@ -26,6 +26,12 @@ decreases-show_if l = 4 * max (size-Block l.yes.now) (size-Block l.no.now) + 2
 abbrev pub decreases-show_arms : goal.decreases-show_arms
 decreases-show_arms l = 4 * max (size-Block l.yes.now) (size-Block l.no.now) + 1
 
+abbrev pub decreases-show_get : goal.decreases-show_get
+decreases-show_get l = 4 * max (size-Block l.yes.now) (size-Block l.no.now) + 2
+
+abbrev pub decreases-show_multiget : goal.decreases-show_multiget
+decreases-show_multiget l = 4 * max (size-Block l.yes.now) (size-Block l.no.now) + 2
+
 abbrev pub invariant-show_block-loop-statement : goal.invariant-show_block-loop-statement
 invariant-show_block-loop-statement l =
     l.tokens ++ (flat_map (λ one. one) (map sentence_shown (drop l.statement-index l.statement-items)) ++ close_block ∷ [])
