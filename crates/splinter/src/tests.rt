@@ -1,3 +1,6 @@
+mod meanings;
+mod running;
+
 use crate::status::Status;
 use crate::top::splinter;
 use sp_outside::{MemSink, MemSource};
