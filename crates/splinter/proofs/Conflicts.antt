@@ -1,7 +1,6 @@
 -- Every conflict of a play tells of a read whose version had moved.
 use Rattle.std.specs.Prelude.{nat_lt, map, if◌then◌else◌}
-use Rattle.std.specs.List.{AllByRecursion}
-use Rattle.std.proofs.Common.{◌≡◌, ◌+◌, Bool, true, false, List, [], ◌∷◌, ◌++◌, refl, sym, subst}
+use Rattle.std.proofs.Common.{◌≡◌, ◌+◌, Bool, true, false, List, [], refl, sym, subst}
 use Rattle.sp_base.specs.declared.calls.Call.{Call}
 use Rattle.sp_base.specs.declared.outcomes.Outcome.{Outcome}
 use Rattle.sp_base.specs.declared.outcomes.Outcome.TheVariants as outcome
@@ -79,7 +78,7 @@ install-moved install.Memory = tt
 pub plays-moved : (script : Script) (answers : List Answer) (journal : List Entry) → Plays script answers journal → ConflictsHaveMoved answers
 plays-moved script answers journal (Missing a) =
     subst ConflictsHaveMoved (sym a.answers_are)
-    (put-moved (put_answered script), install-moved (install_answered script), tt, tt)
+    (put-moved (put_answered script), (install-moved (install_answered script), (tt, tt)))
 plays-moved script answers journal (Queued a) =
     subst ConflictsHaveMoved (sym a.answers_are)
-    (put-moved (put_answered script), install-moved (install_answered script), tt, drains-moved a.drains)
+    (put-moved (put_answered script), (install-moved (install_answered script), (tt, drains-moved a.drains)))
