@@ -66,7 +66,7 @@ passed : {A : Type 0} (b : Bool) (rest : Option A) (x : A) → (if b then rest e
 passed true rest x nothing = (refl, nothing)
 passed false rest x nothing = (cc)
 
-same_number : {a b : ℕ} → (a == b) ≡ true → a ≡ b
+pub same_number : {a b : ℕ} → (a == b) ≡ true → a ≡ b
 same_number {a} {b} same = grind (arith, nat_tests)
 
 -- where no read has moved, all are current

@@ -19,9 +19,7 @@ use Rattle.book.specs.GrantsList.{GrantsList}
 use Rattle.book.specs.Laws.{ConflictsNameMovedReads, IsFirstMoved, KilledAt, LegalKilledAreSpent, NamesMovedRead}
 use Rattle.book.specs.Legal.{IsCurrent, LegalAt}
 use Rattle.book.specs.Verdict.{BookValue, is_full, moved, verdict_on}
-
-same_number : {a b : ℕ} → (a == b) ≡ true → a ≡ b
-same_number {a} {b} same = grind (arith, nat_tests)
+use Rattle.book.proofs.Committing.{same_number}
 
 other_number : {a b : ℕ} → (a == b) ≡ false → a ≢ b
 other_number {a} {b} other = grind (arith, nat_tests)

@@ -17,7 +17,7 @@ use Rattle.book.specs.GrantsList.{GrantsList, rights_of}
 use Rattle.book.specs.Legal.{Each, IsCurrent, Legal, Names}
 use Rattle.book.specs.Verdict.{BookValue, verdict}
 
--- the read at this place is the first whose version is not the one that now stands
+-- the read at this index is the first whose version is not the one that now stands
 pub record IsFirstMoved (journal : List Entry) (reads : List ReadItem) (at : ℕ) (item : ReadItem) : Type 0 where
   pub among : slice_get reads at ≡ Some item
   pub moved : item.version ≢ version_of journal (place_of item)

@@ -1,6 +1,6 @@
-//! Extensions as a tenant writes them, run on the records that are known, and what is told of a
-//! run: the units used, and `done` with the code, the reply and the changes; or a trap, a record that
-//! is wanted, or that the units are spent.
+//! Extensions as a tenant writes them, run on the records that are known, and what is told of a run:
+//! the units used, and `done` with the code, the reply and the changes; or a trap, a record that is
+//! wanted, or that the units are spent.
 
 use ext_check::check_text;
 use ext_eval::eval;
