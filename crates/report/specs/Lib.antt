@@ -1,0 +1,5 @@
+pub mod Fields
+pub mod Lines
+pub mod Entries
+pub mod Summary
+pub mod Numbering
