@@ -19,6 +19,3 @@ mod walk;
 
 pub use check::check_borrows;
 pub use refusal::BorrowRefusal;
-
-#[cfg(test)]
-mod tests;

@@ -8,6 +8,3 @@ mod laws;
 pub use check::check_text;
 pub use fault::CheckFault;
 pub use laws::{refused_are_not_accepted, texts_have_one_refusal};
-
-#[cfg(test)]
-mod tests;

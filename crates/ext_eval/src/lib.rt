@@ -18,6 +18,3 @@ mod values;
 mod world;
 
 pub use evaluating::eval;
-
-#[cfg(test)]
-mod tests;

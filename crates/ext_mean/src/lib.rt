@@ -36,6 +36,3 @@ pub use state::{Buffer, Local, State, Value};
 pub use statement::{Block, Kind, Statement};
 pub use token::{Mark, Placed, Token, Word};
 pub use tree::{Function, Param, Program};
-
-#[cfg(test)]
-mod tests;

@@ -20,6 +20,3 @@ pub use fault::ParseFault;
 pub use laws::{faulty_texts_spell_none, texts_have_one_fault, texts_spell_one_program};
 pub use parsed::Parsed;
 pub use parsing::parse;
-
-#[cfg(test)]
-mod tests;

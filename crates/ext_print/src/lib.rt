@@ -10,6 +10,3 @@ mod shown_statements;
 mod symbols;
 
 pub use printing::print;
-
-#[cfg(test)]
-mod tests;

@@ -19,6 +19,3 @@ pub use laws::{ends_are_one, no_token_follows, tokens_are_one, tokens_join, toke
 pub use lines::ends_line;
 pub use scan::{End, Scanned, scan_text};
 pub use words::letters;
-
-#[cfg(test)]
-mod tests;

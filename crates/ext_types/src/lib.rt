@@ -15,6 +15,3 @@ mod walk;
 
 pub use check::check_types;
 pub use refusal::TypeRefusal;
-
-#[cfg(test)]
-mod tests;

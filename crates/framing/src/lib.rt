@@ -5,6 +5,3 @@ mod cutting;
 mod framer;
 
 pub use framer::{FrameFault, Framer, one_reading};
-
-#[cfg(test)]
-mod tests;

@@ -25,6 +25,3 @@ pub use encode::{encode_answer, encode_request, one_message, share_answer, share
 pub use faults::WireFault;
 pub use items::{Item, Items};
 pub use requests::{Calls, Request};
-
-#[cfg(test)]
-mod tests;

@@ -1,6 +1,6 @@
 ghost use Rattle.std.specs.Prelude.{◌≤◌};
 
-use super::*;
+use framing::{FrameFault, Framer};
 use std::alloc::Global;
 use std::process::Abort;
 use std::test::Fail;

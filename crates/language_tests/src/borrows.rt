@@ -1,6 +1,6 @@
-//! More cases are judged from their texts, in `ext_check`.
+//! Programs without a text; more cases are judged from their texts, in `checks`.
 
-use super::*;
+use ext_borrow::{BorrowRefusal, check_borrows};
 use ext_mean::{Block, BorrowCode, Expr, Function, Kind, Name, Param, Program, Statement};
 use sqlite_items::Items;
 use std::alloc::Global;

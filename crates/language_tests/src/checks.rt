@@ -2,7 +2,7 @@
 //! language give, `ok` or a line and a code, and then a program or a part of one, with `~` for a
 //! newline.
 
-use super::*;
+use ext_check::{CheckFault, check_text};
 use ext_mean::Refusal;
 use std::alloc::Global;
 use std::process::Abort;

@@ -1,4 +1,4 @@
-use super::*;
+use ext_eval::eval;
 use ext_mean::{Block, Expr, Function, Kind, Name, Program, Run, Statement, lookup_program};
 use sp_base::{Blob, Change, Key, Level, ReadItem, Rights, TableId, Trap};
 use sqlite_items::Items;

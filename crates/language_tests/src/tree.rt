@@ -1,4 +1,4 @@
-use super::*;
+use ext_mean::{Block, Expr, Function, Kind, Name, Param, Program, Statement, lookup_program};
 use sqlite_items::{Boxed, Items};
 use std::test::Fail;
 

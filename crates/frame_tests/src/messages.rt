@@ -1,9 +1,12 @@
 ghost use Rattle.std.specs.Prelude.{◌≤◌, length};
 
-use super::*;
 use std::alloc::Global;
 use std::process::Abort;
 use std::test::Fail;
+use wire::{
+    Answer, Item, Request, WireFault, decode_answer, decode_request, encode_answer, encode_request,
+    share_answer, share_request,
+};
 
 mod answers;
 mod faults;

@@ -1,5 +1,5 @@
-use super::*;
 use ext_mean::lookup_program;
+use ext_print::print;
 use std::test::Fail;
 
 #[test]

@@ -1,7 +1,7 @@
-//! More cases are judged from their texts, in `ext_check`.
+//! Programs without a text; more cases are judged from their texts, in `checks`.
 
-use super::*;
 use ext_mean::{Block, Expr, Function, Kind, Name, Program, Statement, TypeCode};
+use ext_types::{TypeRefusal, check_types};
 use sqlite_items::Items;
 use std::alloc::Global;
 use std::test::Fail;

@@ -1,40 +1,9 @@
-use super::*;
+use crate::notation::{parts, text_of};
+use ext_parse::{ParseFault, Parsed, parse, print};
 use sp_base::Blob;
-use std::alloc::{AllocError, Global};
+use std::alloc::Global;
 use std::process::Abort;
 use std::test::Fail;
-
-/// Adds the bytes of a notation: `~` is a newline, `$` a tab, and `^` a byte that no text may have.
-fn push_bytes(text: &mut Vec<u8>, notation: &str) -> Result<(), AllocError> {
-    for byte in notation.as_bytes() {
-        text.push(match *byte {
-            b'~' => b'\n',
-            b'$' => b'\t',
-            b'^' => 0x7f,
-            byte => byte,
-        })?;
-    }
-    Ok(())
-}
-
-/// The text of a notation, in which `[PART@COUNT]` is a part so many times.
-fn text_of(alloc: Global, notation: &str) -> Result<Vec<u8>, Fail> {
-    let mut text = Vec::new(alloc);
-    for piece in notation.split('[') {
-        let Some((repeated, rest)) = piece.split_once(']') else {
-            push_bytes(&mut text, piece)?;
-            continue;
-        };
-        let Some((part, count)) = repeated.split_once('@') else {
-            return Err(Fail::new("no count"));
-        };
-        for _turn in 0..count.parse::<usize>()? {
-            push_bytes(&mut text, part)?;
-        }
-        push_bytes(&mut text, rest)?;
-    }
-    Ok(text)
-}
 
 /// What is told of a text: `ok`, or the line and the code of its fault.
 fn told(alloc: Global, text: &[u8]) -> Result<String, Fail> {
@@ -42,14 +11,6 @@ fn told(alloc: Global, text: &[u8]) -> Result<String, Fail> {
         Ok(_) => Ok(String::from_str(alloc, "ok")?),
         Err(ParseFault::Syntax { line, code }) => Ok(format!(in alloc; "{line} {code:?}")?),
         Err(ParseFault::Memory) => Err(Fail::new("no memory")),
-    }
-}
-
-/// The two parts of a case.
-fn parts(case: &str) -> Result<(&str, &str), Fail> {
-    match case.rsplit_once(" => ") {
-        Some(parts) => Ok(parts),
-        None => Err(Fail::new("no case")),
     }
 }
 

@@ -1,0 +1,8 @@
+//! Tests of frames and messages: each limit at its edge, each cut, and bytes written out by hand. They stand
+//! above the crates that they test, so that no crate is proved twice.
+#![tactic(auto)]
+
+#[cfg(test)]
+mod framing;
+#[cfg(test)]
+mod messages;
