@@ -1,1 +1,9 @@
 pub mod Words
+pub mod Results
+pub mod Fields
+pub mod Reading
+pub mod Texts
+pub mod Lines
+pub mod Tenants
+pub mod Drafts
+pub mod Judged

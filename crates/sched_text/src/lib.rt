@@ -4,14 +4,21 @@
 
 mod calls;
 mod code;
+mod draft;
 mod event;
 mod fault;
+mod fields;
+mod line;
+mod lines;
+mod read;
 mod rows;
 mod script;
+mod tenants;
 
 pub use calls::{CallItem, CallScript};
 pub use code::LineCode;
 pub use event::Event;
 pub use fault::ScriptFault;
+pub use read::{read_script, read_setup};
 pub use rows::Rows;
 pub use script::{Head, Script};
