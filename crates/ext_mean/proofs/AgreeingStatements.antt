@@ -24,7 +24,7 @@ use Rattle.ext_mean.specs.MeaningExpressions.{evaluate}
 use Rattle.ext_mean.specs.MeaningStatements as meaning
 use Rattle.ext_mean.specs.MeaningStatements.{Course, Calls, execute, run_block, statement_step, statement_form, block_step, behind, one_by_one}
 use Rattle.ext_mean.specs.Work.{World, Step, Next, Ends, Work, after, ◌>>=◌, give, charge, require}
-use Rattle.ext_mean.proofs.Agreement.{Mark, mark, Uses, Owes, owes-later, Owing, uses-none, grown, Grows, Agree, behind-step}
+use Rattle.ext_mean.proofs.Agreement.{Mark, mark, Uses, Owes, Reaches, owes-later, owes-reaches, reaches-less, Owing, uses-none, grown, Grows, Agree, behind-later, behind-step, later}
 use Rattle.ext_mean.proofs.AgreeingWork as works
 use Rattle.ext_mean.proofs.AgreeingExpressions as expressions
 use Rattle.ext_mean.proofs.Pieces.{is_key-take, width-tested}
@@ -152,33 +152,95 @@ module _ (free : Run → Mark → Type 0) (small : World) (budget : ℕ) (known 
   turn-owes true body rest body-owes owes state = owing-after large state.used (body state) (behind rest) (body-owes state) (behind-owes rest owes)
   turn-owes false body rest body-owes owes state = uses-none large state.used
 
+  -- a turn of a loop behind its unit, whose test, body and further turns owe what they are to owe
+  turn-owing : (test : Work Value) (body rest : Course) → Owing large test → Owing large body → Owing large rest
+      → Owing large (test >>= meaning.branch (body >>= behind rest) (give None))
+  turn-owing test body rest test-owes body-owes rest-owes state =
+      owing-after large state.used (test state) _ (test-owes state) (λ truth tested.
+      turn-owes (truth_of truth) body rest body-owes rest-owes tested)
+
   -- the turns of a loop whose test and body owe what they are to owe
   turns-owe : (left : ℕ) (test : Work Value) (body : Course) → Owing large test → Owing large body → Owing large (meaning.turns large left test body)
   turns-owe zero test body test-owes body-owes state = tt
   turns-owe (suc left) test body test-owes body-owes state =
-      let rest = meaning.turns large left test body in
-      owing-after large state.used (charge large 1 state) _ (works.charge-owes free small budget known grows 1 state) (λ _ paid.
-      owing-after large paid.used (test paid) _ (test-owes paid) (λ truth tested.
-      turn-owes (truth_of truth) body rest body-owes (turns-owe left test body test-owes body-owes) tested))
+      owing-after large state.used (charge large 1 state) _ (works.charge-owes free small budget known grows 1 state)
+      (λ _. turn-owing test body (meaning.turns large left test body) test-owes body-owes (turns-owe left test body test-owes body-owes))
 
-  turns-agree : (left left' : ℕ) → left ≤ left' → ((left' ≡ left) ⊎ ((m : Mark) → free Spent m)) → (test test' : Work Value) (body body' : Course) → R test test' → R body body' → R (meaning.turns small left test body) (meaning.turns large left' test' body')
-  turns-agree zero zero fits spends test test' body body' same-test same-body state = same-step state.used (Ends Spent) tt
-  turns-agree zero (suc left') fits spends test test' body body' same-test same-body state =
+  charge-reaches : {B : Type 0} (fits : Bool) (units : ℕ) (state : State) (more : Work B) → Owing large more
+      → Reaches (state.used + units) (mark (after (if fits then Next (tt {0}) (record state { used = state.used + units }) else Ends Spent) (λ _. more)))
+  charge-reaches true units state more owes =
+      owes-reaches large (state.used + units) (mark (more (record state { used = state.used + units }))) (owes (record state { used = state.used + units }))
+  charge-reaches false units state more owes = tt
+
+  -- so many more turns than the first run's end it no earlier than its budget does
+  abbrev Bounded : ℕ → ℕ → ℕ → Type 0
+  Bounded left left' used =
+      (left' ≡ left) ⊎ (((m : Mark) → Reaches (small.budget + 1) m → free Spent m) × (small.budget ≤ used + left))
+
+  still-bounded : (left left' before used : ℕ) → before + 1 ≤ used → Bounded (suc left) (suc left') before → Bounded left left' used
+  still-bounded left left' before used grown bounded =
+      elim bounded [ inl e ↦ inl (omega arith) | inr f ↦ inr (f.0, omega (arith, f.1)) ]
+
+  followed : (returned : Option Value) (state : State) (rest rest' : Course) → Agree free large state.used (rest state) (rest' state)
+      → Agree free large state.used (behind rest returned state) (behind rest' returned state)
+  followed (Some value) state rest rest' agree = same-step state.used (Next (Some value) state) (uses-none large state.used)
+  followed None state rest rest' agree = agree
+
+  -- a turn that is taken where its test is true, and what stands behind it from then on
+  taken : (truth : Bool) (state : State) (body body' rest rest' : Course) → R body body'
+      → ((later : State) → state.used ≤ later.used → Agree free large later.used (rest later) (rest' later))
+      → Agree free large state.used ((if truth then (body >>= behind rest) else give None) state) ((if truth then (body' >>= behind rest') else give None) state)
+  taken true state body body' rest rest' same-body agree =
+      behind-later free small budget known grows state.used (body state) (body' state) (behind rest) (behind rest') (same-body state)
+      (λ returned later fits. followed returned later rest rest' (agree later fits))
+  taken false state body body' rest rest' same-body agree = same-step state.used (Next None state) (uses-none large state.used)
+
+  -- a loop's further turns agree where they are bounded alike
+  turns-agree : (left left' : ℕ) → left ≤ left' → (test test' : Work Value) (body body' : Course) → R test test' → R body body'
+      → (state : State) → Bounded left left' state.used
+      → Agree free large state.used (meaning.turns small left test body state) (meaning.turns large left' test' body' state)
+  turns-agree zero zero fits test test' body body' same-test same-body state bounded = same-step state.used (Ends Spent) tt
+  turns-agree zero (suc left') fits test test' body body' same-test same-body state bounded =
+      let rest = meaning.turns large left' test' body' in
+      let more = test' >>= meaning.branch (body' >>= behind rest) (give None) in
+      let test-owes : Owing large test' = λ s. (same-test s).owes in
+      let body-owes : Owing large body' = λ s. (same-body s).owes in
       let step = meaning.turns large (suc left') test' body' state in
-      elim spends [
+      elim bounded [
         | inl e ↦ absurd (omega arith)
         | inr f ↦ record {
-          same = inr (record { run = Spent; stopped = refl; allowed = f (mark step) });
-          owes = turns-owe (suc left') test' body' (λ s. (same-test s).owes) (λ s. (same-body s).owes) state;
+          same = inr (record {
+            run = Spent;
+            stopped = refl;
+            allowed = f.0 (mark step) (reaches-less (small.budget + 1) (state.used + 1) (mark step) (omega (arith, f.1))
+                (charge-reaches (nat_le (state.used + 1) budget) 1 state more (turn-owing test' body' rest test-owes body-owes (turns-owe left' test' body' test-owes body-owes))));
+          });
+          owes = turns-owe (suc left') test' body' test-owes body-owes state;
         }
       ]
-  turns-agree (suc left) zero fits spends test test' body body' same-test same-body state = absurd (omega arith)
-  turns-agree (suc left) (suc left') fits spends test test' body body' same-test same-body state =
+  turns-agree (suc left) zero fits test test' body body' same-test same-body state bounded = absurd (omega arith)
+  turns-agree (suc left) (suc left') fits test test' body body' same-test same-body state bounded =
       let less : left ≤ left' = omega arith in
-      let spends' : (left' ≡ left) ⊎ ((m : Mark) → free Spent m) = elim spends [ inl e ↦ inl (omega arith) | inr f ↦ inr f ] in
-      charged 1 _ _ (next same-test (branch-agrees _ _ _ _
-      (next same-body (behind-agrees _ _ (turns-agree left left' less spends' test test' body body' same-test same-body)))
-      (given None))) state
+      let paid : State = record state { used = state.used + 1 } in
+      let rest : Course = meaning.turns small left test body in
+      let rest' : Course = meaning.turns large left' test' body' in
+      let test-owes : Owing large test' = λ s. (same-test s).owes in
+      let body-owes : Owing large body' = λ s. (same-body s).owes in
+      works.paying free small budget known grows 1 state
+      (λ _. test >>= meaning.branch (body >>= behind rest) (give None)) (λ _. test' >>= meaning.branch (body' >>= behind rest') (give None))
+      (owes-reaches large (state.used + 1) (mark ((test' >>= meaning.branch (body' >>= behind rest') (give None)) paid))
+      (turn-owing test' body' rest' test-owes body-owes (turns-owe left' test' body' test-owes body-owes) paid))
+      (λ bound. later free small budget known grows state.used (state.used + 1) _ _ (record { grows = omega arith; within = λ _. bound })
+      (behind-later free small budget known grows paid.used (test paid) (test' paid) _ _ (same-test paid) (λ truth tested tested-later.
+      taken (truth_of truth) tested body body' rest rest' same-body (λ s s-later.
+      turns-agree left left' less test test' body body' same-test same-body s (still-bounded left left' state.used s.used (omega arith) bounded)))))
+
+  -- a loop whose turns are bounded by the budget
+  loops-agree : (test test' : Work Value) (body body' : Course) → R test test' → R body body'
+      → R (meaning.turns small small.budget test body) (meaning.turns large budget test' body')
+  loops-agree test test' body body' same-test same-body state =
+      turns-agree small.budget budget grows.fits test test' body body' same-test same-body state
+      (elim grows.spends [ inl e ↦ inl e | inr f ↦ inr (f, omega arith) ])
 
   goes-on-agrees : (work work' : Work (Unit {0})) → R work work' → R (meaning.goes_on work) (meaning.goes_on work')
   goes-on-agrees work work' related = next related (λ _. given None)
@@ -201,7 +263,7 @@ module _ (free : Run → Mark → Type 0) (small : World) (budget : ℕ) (known 
     form-agrees (Statement-F.LetCall name kind function args) = goes-on-agrees _ _ (next (works.in_order-agrees free small budget known grows (evaluate small) (evaluate large) evaluated args) (λ values. next (calls-agree function values) (declare-agrees name)))
     form-agrees (Statement-F.Assign name expression) = goes-on-agrees _ _ (next (evaluated expression) (assign-agrees name))
     form-agrees (Statement-F.If test one other) = next (evaluated test) (branch-agrees _ _ _ _ one.1 other.1)
-    form-agrees (Statement-F.While test body) = turns-agree small.budget budget grows.fits grows.spends _ _ _ _ (evaluated test) body.1
+    form-agrees (Statement-F.While test body) = loops-agree _ _ _ _ (evaluated test) body.1
     form-agrees (Statement-F.Get table key name one other) = next (evaluated table) (λ number. next (evaluated key) (λ bytes. next (get-agrees (number_of number) (bytes_of bytes)) (arm-agrees name _ _ _ _ one.1 other.1)))
     form-agrees (Statement-F.Multi table keys width name one other) = next (evaluated table) (λ number. next (evaluated keys) (λ bytes. next (evaluated width) (λ wide. multiget-agrees (number_of number) (bytes_of bytes) (number_of wide) _ _ (arm-agrees name _ _ _ _ one.1 other.1))))
     form-agrees (Statement-F.Set name place expression) = goes-on-agrees _ _ (next (evaluated place) (λ at. next (evaluated expression) (λ byte. overwrite-agrees name (nat_lt (number_of byte) 256) (number_of at) (number_of byte ∷ []))))

@@ -1,7 +1,7 @@
 -- The pieces of which the meaning is made agree in a world and in one that grew from it.
 use Rattle.std.proofs.Common.{◌≡◌, ◌⊎◌, inl, inr, ℕ, ◌+◌, ◌≤◌, Bool, true, false, List, [], ◌∷◌, map, Option, Some, None, refl, sym, subst, arith, if◌then◌else◌, nat_le}
 use Rattle.std.specs.Prelude.{IsTrue}
-use Rattle.std.proofs.lemmas.Bool.{leb-true, le-leb}
+use Rattle.std.proofs.lemmas.Bool.{leb-true, leb-false, le-leb}
 use Rattle.sp_base.specs.declared.outcomes.Trap.{Trap}
 use Rattle.sp_base.specs.declared.outcomes.Trap.TheVariants.{Denied}
 use Rattle.sp_base.specs.declared.writes.Change.{Change}
@@ -13,7 +13,7 @@ use Rattle.ext_mean.specs.declared.state.State.{State}
 use Rattle.ext_mean.specs.MeaningValues.{is_key, left_by, pending}
 use Rattle.ext_mean.specs.MeaningStatements.{found, read}
 use Rattle.ext_mean.specs.Work.{World, Step, Next, Ends, Work, after, ◌>>=◌, give, charge, require, known_or_wanted, in_order}
-use Rattle.ext_mean.proofs.Agreement.{Mark, Going, mark, Owes, uses-none, grown, Grows, Agree, Related, later, both}
+use Rattle.ext_mean.proofs.Agreement.{Mark, Going, mark, Owes, Reaches, owes-reaches, reaches-less, uses-none, grown, Grows, Agree, Related, later, both}
 
 module _ (free : Run → Mark → Type 0) (small : World) (budget : ℕ) (known : Place → Option (Option (List ℕ))) (grows : Grows free small budget known) where
   abbrev pub large : World
@@ -40,7 +40,7 @@ module _ (free : Run → Mark → Type 0) (small : World) (budget : ℕ) (known 
   paid units state = record state { used = state.used + units }
 
   charge-cases : {B : Type 0} (b b' : Bool) (units : ℕ) (state : State) (k k' : Unit {0} → Work B)
-      → (b ≡ true → b' ≡ true) → ((b' ≡ b) ⊎ ((m : Mark) → free Spent m))
+      → (b ≡ true → b' ≡ true) → ((b' ≡ b) ⊎ (b ≡ false → free Spent (mark (k' tt (paid units state)))))
       → (b' ≡ true → Agree free large state.used (k tt (paid units state)) (k' tt (paid units state)))
       → Agree free large state.used (after (if b then Next tt (paid units state) else Ends Spent) k) (after (if b' then Next tt (paid units state) else Ends Spent) k')
   charge-cases true true units state k k' up spends rest = rest refl
@@ -48,27 +48,30 @@ module _ (free : Run → Mark → Type 0) (small : World) (budget : ℕ) (known 
   charge-cases false true units state k k' up spends rest = elim spends [
     | inl e ↦ absurd (let f : true ≡ false = e in cc)
     | inr f ↦ record {
-      same = inr (record { run = Spent; stopped = refl; allowed = f (mark (k' tt (paid units state))) });
+      same = inr (record { run = Spent; stopped = refl; allowed = f refl });
       owes = (rest refl).owes;
     }
   ]
   charge-cases false false units state k k' up spends rest = same-step state.used (Ends Spent) tt
 
   pub paying : {B : Type 0} (units : ℕ) (state : State) (k k' : Unit {0} → Work B)
+      → Reaches (state.used + units) (mark (k' tt (paid units state)))
       → (state.used + units ≤ budget → Agree free large state.used (k tt (paid units state)) (k' tt (paid units state)))
       → Agree free large state.used ((charge small units >>= k) state) ((charge large units >>= k') state)
-  paying units state k k' rest =
+  paying units state k k' reach rest =
       let fits : small.budget ≤ budget = grows.fits in
       charge-cases (nat_le (state.used + units) small.budget) (nat_le (state.used + units) budget) units state k k'
       (λ h. let low = leb-true (state.used + units) small.budget h in le-leb (state.used + units) budget (omega arith))
       (elim grows.spends [
         | inl e ↦ inl (subst (λ b. nat_le (state.used + units) b ≡ nat_le (state.used + units) small.budget) (sym e) refl)
-        | inr f ↦ inr f
+        | inr f ↦ inr (λ h. let over = leb-false (state.used + units) small.budget h in
+            f (mark (k' tt (paid units state))) (reaches-less (small.budget + 1) (state.used + units) (mark (k' tt (paid units state))) (omega arith) reach))
       ])
       (λ h. rest (leb-true (state.used + units) budget h))
 
   pub charged : {B : Type 0} (units : ℕ) (m m' : Work B) → R m m' → R (charge small units >>= (λ _. m)) (charge large units >>= (λ _. m'))
-  charged units m m' rest state = paying units state (λ _. m) (λ _. m') (λ bound.
+  charged units m m' rest state = paying units state (λ _. m) (λ _. m')
+      (owes-reaches large (state.used + units) (mark (m' (paid units state))) (rest (paid units state)).owes) (λ bound.
       later free small budget known grows state.used (state.used + units) (m (paid units state)) (m' (paid units state))
       (record { grows = omega arith; within = λ _. bound })
       (rest (paid units state)))
@@ -121,11 +124,19 @@ module _ (free : Run → Mark → Type 0) (small : World) (budget : ℕ) (known 
       same-step state.used (Next (left_by change) (paid 16 state)) (record { grows = omega arith; within = λ _. bound })
   found-step None place state bound readable sized = known-step place state bound readable sized
 
+  known-reaches : (answer : Option (Option (List ℕ))) (place : Place) (state : State) → Reaches (state.used + 16) (mark (known_or_wanted answer place (paid 16 state)))
+  known-reaches (Some value) place state = omega arith
+  known-reaches None place state = omega arith
+
+  found-reaches : (change : Option Change) (place : Place) (state : State) → Reaches (state.used + 16) (mark (found large place change (paid 16 state)))
+  found-reaches (Some change) place state = omega arith
+  found-reaches None place state = known-reaches (known place) place state
+
   pub read-agrees : (table : ℕ) (key : List ℕ) → IsTrue (is_key key) → R (read small table key) (read large table key)
   read-agrees table key sized =
       let place : Place = record { table = table; key = key } in
       guarded (can_read small.view.rights table) Denied _ _ (λ readable state.
-      paying 16 state _ _ (λ bound. found-step (pending place state.writes) place state bound readable sized))
+      paying 16 state _ _ (found-reaches (pending place state.writes) place state) (λ bound. found-step (pending place state.writes) place state bound readable sized))
 
   pub in_order-agrees : {A B : Type 0} (first second : A → Work B) → ((a : A) → R (first a) (second a)) → (list : List A) → R (in_order (map first list)) (in_order (map second list))
   in_order-agrees first second each [] = given []

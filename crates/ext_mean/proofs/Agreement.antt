@@ -52,6 +52,28 @@ owes-later world first second (Stopped (Wants table key used)) u o =
 pub uses-none : (world : World) (used : ℕ) → Uses world used used
 uses-none world used = record { grows = omega arith; within = λ h. h }
 
+-- so many units or more were used there
+abbrev pub Reaches : ℕ → Mark → Type 0
+Reaches units (Going used) = units ≤ used
+Reaches units (Stopped (Done reply writes used)) = units ≤ used
+Reaches units (Stopped (Trapped trap used)) = units ≤ used
+Reaches units (Stopped Spent) = Unit {0}
+Reaches units (Stopped (Wants table key used)) = units ≤ used
+
+pub owes-reaches : (world : World) (before : ℕ) (m : Mark) → Owes world before m → Reaches before m
+owes-reaches world before (Going used) owes = owes.grows
+owes-reaches world before (Stopped (Done reply writes used)) owes = owes.grows
+owes-reaches world before (Stopped (Trapped trap used)) owes = owes.grows
+owes-reaches world before (Stopped Spent) owes = tt
+owes-reaches world before (Stopped (Wants table key used)) owes = omega (arith, owes.cost)
+
+pub reaches-less : (less more : ℕ) (m : Mark) → less ≤ more → Reaches more m → Reaches less m
+reaches-less less more (Going used) fits reach = omega arith
+reaches-less less more (Stopped (Done reply writes used)) fits reach = omega arith
+reaches-less less more (Stopped (Trapped trap used)) fits reach = omega arith
+reaches-less less more (Stopped Spent) fits reach = tt
+reaches-less less more (Stopped (Wants table key used)) fits reach = omega arith
+
 -- work that owes what it is to owe, from each state
 abbrev pub Owing : {A : Type 0} → World → Work A → Type 0
 Owing world work = (state : State) → Owes world state.used (mark (work state))
@@ -62,10 +84,10 @@ grown world budget known =
     record { args = world.args; budget = budget; view = record { rights = world.view.rights; known = known } }
 
 -- What the second world frees: `free run mark` says that the first run may be stopped so where the
--- second one stands there.
+-- second one stands there. It may be spent where the second one has used more than its budget.
 pub record Grows (free : Run → Mark → Type 0) (world : World) (budget : ℕ) (known : Place → Option (Option (List ℕ))) : Type 0 where
   pub fits : world.budget ≤ budget
-  pub spends : (budget ≡ world.budget) ⊎ ((m : Mark) → free Spent m)
+  pub spends : (budget ≡ world.budget) ⊎ ((m : Mark) → Reaches (world.budget + 1) m → free Spent m)
   pub knows : (place : Place) → (known place ≡ world.view.known place) ⊎ ((world.view.known place ≡ None) × ((used : ℕ) → free (Wants (record { 0 = place.table }) place.key used) (Going used)))
   pub closed : (run : Run) (used : ℕ) (m : Mark) → free run (Going used) → Owes (grown world budget known) used m → free run m
 
@@ -102,9 +124,12 @@ module _ (free : Run → Mark → Type 0) (small : World) (budget : ℕ) (known 
   freed-end : {A B : Type 0} (x : Step A) (run : Run) (k : A → Work B) → Freed free x (Ends run) → Freed free (after x k) (Ends run)
   freed-end x run k f = record { run = f.run; stopped = subst (λ z. Ends f.run ≡ after z k) f.stopped refl; allowed = f.allowed }
 
-  pub behind-step : {A B : Type 0} (before : ℕ) (x y : Step A) (k k' : A → Work B) → Agree free large before x y → ((value : A) → Related (k value) (k' value)) → Agree free large before (after x k) (after y k')
-  behind-step before x (Next value state) k k' a rest =
-      let r = rest value state in
+  -- steps that agree, with works behind them that agree from each state with no fewer units used
+  pub behind-later : {A B : Type 0} (before : ℕ) (x y : Step A) (k k' : A → Work B) → Agree free large before x y
+      → ((value : A) (state : State) → before ≤ state.used → Agree free large state.used (k value state) (k' value state))
+      → Agree free large before (after x k) (after y k')
+  behind-later before x (Next value state) k k' a rest =
+      let r = rest value state a.owes.grows in
       record {
         same = elim a.same [
           | inl e ↦ subst (λ z. Same free (after z k) (k' value state)) e r.same
@@ -112,7 +137,7 @@ module _ (free : Run → Mark → Type 0) (small : World) (budget : ℕ) (known 
         ];
         owes = owes-later large before state.used (mark (k' value state)) a.owes r.owes;
       }
-  behind-step before x (Ends run) k k' a rest =
+  behind-later before x (Ends run) k k' a rest =
       record {
         same = elim a.same [
           | inl e ↦ subst (λ z. Same free (after z k) (Ends run)) e (inl refl)
@@ -120,6 +145,9 @@ module _ (free : Run → Mark → Type 0) (small : World) (budget : ℕ) (known 
         ];
         owes = a.owes;
       }
+
+  pub behind-step : {A B : Type 0} (before : ℕ) (x y : Step A) (k k' : A → Work B) → Agree free large before x y → ((value : A) → Related (k value) (k' value)) → Agree free large before (after x k) (after y k')
+  behind-step before x y k k' a rest = behind-later before x y k k' a (λ value state fits. rest value state)
 
   pub both : {A B : Type 0} (m m' : Work A) (k k' : A → Work B) → Related m m' → ((value : A) → Related (k value) (k' value)) → Related (m >>= k) (m' >>= k')
   both m m' k k' first rest state = behind-step state.used (m state) (m' state) k k' (first state) rest

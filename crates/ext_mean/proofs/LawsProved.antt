@@ -36,7 +36,7 @@ spent_free run m = run ≡ Spent
 greater-grows : (args : List ℕ) (budget greater : ℕ) (view : View) → budget ≤ greater → Grows spent_free (world_of args budget view) greater view.known
 greater-grows args budget greater view fits = record {
   fits = fits;
-  spends = inr (λ m. refl);
+  spends = inr (λ m reach. refl);
   knows = λ place. inl refl;
   closed = λ run used m free owes. free;
 }

@@ -6,6 +6,7 @@ pub mod Pieces
 pub mod AgreeingStatements
 pub mod AgreeingPrograms
 pub mod LawsProved
+pub mod UnitsProved
 pub mod WantsProved
 pub mod LookupProved
 pub mod ItemEquations

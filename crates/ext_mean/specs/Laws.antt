@@ -8,7 +8,7 @@ use Rattle.ext_mean.specs.declared.tree.Program.{Program}
 use Rattle.ext_mean.specs.declared.run.Run.{Run}
 use Rattle.ext_mean.specs.declared.run.Run.TheVariants.{Done, Trapped, Spent, Wants}
 use Rattle.ext_mean.specs.Views.{View, Extends}
-use Rattle.ext_mean.specs.Outcomes.{outcome_of}
+use Rattle.ext_mean.specs.Outcomes.{outcome_of, units_of}
 use Rattle.ext_mean.specs.Meaning.{mean}
 
 -- where the meaning with some units is not spent, it is the same with every greater number
@@ -17,6 +17,13 @@ GreaterBudgetsMeanTheSame =
     (program : Program) (args : List ℕ) (budget greater : ℕ) (view : View)
     → budget ≤ greater → mean program args budget view ≢ Spent
     → mean program args greater view ≡ mean program args budget view
+
+-- a run that is not spent is the same with any number of units that holds those it used
+abbrev pub UsedUnitsSuffice : Type 0
+UsedUnitsSuffice =
+    (program : Program) (args : List ℕ) (budget units : ℕ) (view : View)
+    → mean program args budget view ≢ Spent → units_of budget (mean program args budget view) ≤ units
+    → mean program args units view ≡ mean program args budget view
 
 -- where the meaning on a view wants nothing, it is the same on every view that knows as much
 abbrev pub KnownRecordsDecide : Type 0

@@ -1,11 +1,16 @@
 ghost use Rattle.ext_mean.specs.Confinement.{OnlyReadableIsWanted, OnlyWritableIsChanged, PlacesAreChangedOnce, RunsAreWithinLimits};
 ghost use Rattle.ext_mean.specs.Loops.{LoopsUnroll};
-ghost use Rattle.ext_mean.specs.Laws.{GreaterBudgetsMeanTheSame, KnownRecordsDecide, RunsStayWithinBudgets, WantsAreDue, WantsCost, WantsPersist};
+ghost use Rattle.ext_mean.specs.Laws.{GreaterBudgetsMeanTheSame, KnownRecordsDecide, RunsStayWithinBudgets, UsedUnitsSuffice, WantsAreDue, WantsCost, WantsPersist};
 ghost use Rattle.ext_mean.specs.Asked.{KnownRecordsCost, ReadsCost, WantedReadJoins};
 
 /// Where the meaning with some units is not spent, it is the same with every greater number.
 pub fn greater_budgets_mean_the_same()
     ensures { GreaterBudgetsMeanTheSame }
+{}
+
+/// A run that is not spent is the same with any number of units that holds those it used.
+pub fn used_units_suffice()
+    ensures { UsedUnitsSuffice }
 {}
 
 /// Where the meaning on a view wants nothing, it is the same on every view that knows as much.
