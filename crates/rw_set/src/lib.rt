@@ -1,0 +1,11 @@
+//! What a call has read: its reads in order, and the run that has ended on them.
+#![tactic(auto)]
+
+mod finished;
+mod read_set;
+
+pub use finished::Finished;
+pub use read_set::ReadSet;
+
+/// The most reads of one call: each costs 16 units of a budget of at most 100,000.
+pub const MOST_READS: usize = 6_250;
