@@ -1,2 +1,3 @@
+pub mod HearingSteps
 pub mod ReadingSteps
 pub mod WritingSteps

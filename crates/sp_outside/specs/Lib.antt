@@ -1,4 +1,6 @@
+pub mod Doors
 pub mod Faults
+pub mod Hearing
 pub mod Putting
 pub mod Reading
 pub mod Streams

@@ -19,7 +19,7 @@ pub enum Input {
 }
 
 /// The most bytes that are asked for at once.
-const PIECE: usize = 65_536;
+pub(crate) const PIECE: usize = 65_536;
 
 /// Reads to the end of a source, but no more than `most + 1` bytes.
 pub fn read_input<S: Source>(alloc: Global, source: &mut S, most: usize) -> Input
