@@ -1,5 +1,5 @@
 -- Steps of hearing a link, piece by piece.
-use Rattle.std.proofs.Common.{◌≡◌, ℕ, ◌+◌, ◌≤◌, List, [], ◌++◌, length, take, drop, Option, Some, None, IfSome, refl, sym, ◌∙◌, ap, subst, append_assoc, append-nil}
+use Rattle.std.proofs.Common.{◌≡◌, ℕ, ◌+◌, ◌≤◌, List, [], ◌++◌, length, take, drop, Option, Some, None, IfSome, sym, ◌∙◌, ap, subst, append_assoc, append-nil}
 use Rattle.std.proofs.Math.Seq.{take-add, take-append_seam}
 use Rattle.sp_outside.specs.Hearing.{HeardUpTo}
 

@@ -40,6 +40,3 @@ pub use source::{Source, Took};
 pub use streams::{StdSink, StdSource};
 pub use sure::{SureSink, SureSource};
 pub use tcp::{TcpDial, TcpDoor, TcpLink};
-
-#[cfg(test)]
-mod tests;

@@ -1,4 +1,4 @@
-use Rattle.std.proofs.Common.{◌≡◌, ◌∙◌, arith, length-drop, length-take, ℕ}
+use Rattle.std.proofs.Common.{◌∙◌, arith, length-drop, length-take, ℕ}
 use Rattle.std.proofs.lemmas.List.{take_rest}
 use Rattle.sp_outside.proofs.WritingSteps.{written_more}
 use Rattle.sp_outside.proofs.link_output.write_link.Goals as goal

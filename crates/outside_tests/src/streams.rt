@@ -1,7 +1,10 @@
 ghost use Rattle.std.specs.Prelude.{◌≡◌, ◌≢◌, ◌++◌, ℕ, List, Some, IsTrue};
 ghost use Rattle.sp_outside.specs.Faults.{FaultCounted};
 
-use super::*;
+use sp_outside::{
+    Input, MemSink, MemSource, Sink, Source, StdSink, StdSource, SureSink, SureSource, Took,
+    Written, Wrote, read_input, write_output,
+};
 use std::alloc::Global;
 use std::io::{self, ErrorKind, Read, Write};
 use std::test::Fail;
