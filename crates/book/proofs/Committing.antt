@@ -14,6 +14,7 @@ use Rattle.sp_base.specs.Places.{Place, same_place}
 use Rattle.sp_base.specs.RightsList.{can_read, can_write}
 use Rattle.ext_mean.specs.declared.tree.Program.{Program}
 use Rattle.ext_mean.specs.declared.run.Run.{Run}
+use Rattle.ext_mean.specs.Asked.{AreAsked}
 use Rattle.ext_mean.specs.Views.{Extends, part, whole, place_of, value_read}
 use Rattle.sp_base.specs.Limits.{IsArguments}
 use Rattle.ext_mean.specs.Outcomes.{ChangeFits, EndsWith, outcome_of}
@@ -22,10 +23,9 @@ use Rattle.ext_mean.proofs.LawsProved.{known-records}
 use Rattle.ext_mean.proofs.ConfinementProved.{only-readable, only-writable, within-limits}
 use Rattle.book.specs.declared.entry.Entry.{Entry}
 use Rattle.book.specs.declared.entry.Home.TheVariants.{Server}
-use Rattle.book.specs.Asked.{AreAsked}
 use Rattle.book.specs.Folds.{tables_of, version_of, value_at, record_of}
 use Rattle.book.specs.GrantsList.{GrantsList, RightsList, rights_of}
-use Rattle.book.specs.Legal.{IsLegal, Names, IsCurrent, CallIsWithin, valued}
+use Rattle.book.specs.Legal.{AreAll, IsLegal, Names, IsCurrent, CallIsWithin, valued}
 use Rattle.book.specs.Sizes.{InvokeFits}
 use Rattle.book.specs.Verdict.{IsHeld, moved, without_value}
 use Rattle.book.proofs.Versions.{IsValued, valued-record, value_at-prefix}
@@ -169,7 +169,7 @@ pub run-legal : (grants : GrantsList) (journal : List Entry) (call : Call) (prog
     (reads : List ReadItem) (rights : RightsList) (outcome : Outcome) (writes : List Write)
     → rights ≡ rights_of grants call.caller.tenant → Names journal call program
     → AllByRecursion (IsHeld journal) reads → moved journal reads ≡ None
-    → AreAsked program call.args call.budget rights reads
+    → AreAll program call.args call.budget rights reads
     → EndsWith (mean program call.args call.budget (part reads rights)) outcome writes
     → IsLegal grants journal call outcome writes (map without_value reads) Server
 run-legal grants journal call program reads rights outcome writes own names held still asked ends =
@@ -181,7 +181,7 @@ run-legal grants journal call program reads rights outcome writes own names held
       meant = subst (λ (list : RightsList). EndsWith (mean program call.args call.budget (whole (tables_of journal) list)) outcome writes) own meant;
       current = current-without journal reads current;
       asked =
-          subst (λ (list : RightsList). AreAsked program call.args call.budget list (map (valued journal) (map without_value reads))) own
-          (subst (λ (items : List ReadItem). AreAsked program call.args call.budget rights items)
+          subst (λ (list : RightsList). AreAll program call.args call.budget list (map (valued journal) (map without_value reads))) own
+          (subst (λ (items : List ReadItem). AreAll program call.args call.budget rights items)
           (sym (valued-without journal reads held)) asked);
     }

@@ -7,6 +7,7 @@ use Rattle.sp_base.specs.declared.reads.ReadItem.{ReadItem}
 use Rattle.sp_base.specs.declared.writes.Write.{Write}
 use Rattle.sp_base.specs.RightsList.{can_read, can_write}
 use Rattle.ext_mean.specs.declared.tree.Program.{Program}
+use Rattle.ext_mean.specs.Asked.{AreAsked, IsComplete}
 use Rattle.ext_mean.specs.Text.{Spells}
 use Rattle.ext_mean.specs.Views.{whole, place_of}
 use Rattle.ext_mean.specs.Outcomes.{EndsWith}
@@ -15,8 +16,7 @@ use Rattle.book.specs.declared.entry.Entry.{Entry}
 use Rattle.book.specs.declared.entry.Entry.TheVariants.{Invoke, Put, Install}
 use Rattle.book.specs.declared.entry.Home.{Home}
 use Rattle.book.specs.declared.entry.Home.TheVariants.{Server, Client}
-use Rattle.book.specs.GrantsList.{GrantsList, rights_of}
-use Rattle.book.specs.Asked.{AreAsked}
+use Rattle.book.specs.GrantsList.{GrantsList, RightsList, rights_of}
 use Rattle.book.specs.Folds.{tables_of, version_of, value_at, texts_of, last_of}
 
 -- a property of an entry and the entries before it holds at each place of a journal
@@ -38,10 +38,15 @@ valued before read = record read { value = value_at before (place_of read) read.
 abbrev pub IsCurrent : List Entry → ReadItem → Type 0
 IsCurrent before read = read.version ≡ version_of before (place_of read)
 
+-- the reads are all those that the program asks for, and in its order
+pub record AreAll (program : Program) (args : List ℕ) (budget : ℕ) (rights : RightsList) (reads : List ReadItem) : Type 0 where
+  pub asked : AreAsked program args budget rights reads
+  pub complete : IsComplete program args budget rights reads
+
 -- where the run ended in the server, its reads are those that its program asks for
 abbrev pub AskedAtHome : GrantsList → List Entry → Call → Program → List ReadItem → Home → Type 0
 AskedAtHome grants before call program reads Server =
-    AreAsked program call.args call.budget (rights_of grants call.caller.tenant) (map (valued before) reads)
+    AreAll program call.args call.budget (rights_of grants call.caller.tenant) (map (valued before) reads)
 AskedAtHome grants before call program reads Client = Unit {0}
 
 -- A committed call is what its source means alone on the tables then standing, with its whole budget:

@@ -1,5 +1,4 @@
 pub mod GrantsList
-pub mod Asked
 pub mod Folds
 pub mod Sizes
 pub mod Legal

@@ -1,9 +1,9 @@
 ghost use Rattle.std.specs.Prelude.{◌≤◌, length};
 ghost use Rattle.std.specs.Arc.{arc_value};
+ghost use Rattle.ext_mean.specs.Asked.{AreAsked, IsComplete};
 ghost use Rattle.ext_mean.specs.Meaning.{mean};
 ghost use Rattle.ext_mean.specs.Outcomes.{EndsWith};
 ghost use Rattle.ext_mean.specs.Views.{part};
-ghost use Rattle.book.specs.Asked.{AreAsked};
 
 use ext_mean::Program;
 use sp_base::{Call, Outcome, Reads, Rights, Writes};
@@ -23,5 +23,6 @@ pub struct Finished {
     pub writes: Writes,
     ghost meant: { EndsWith (mean (arc_value program) call.args call.budget (part reads rights)) outcome writes },
     ghost asked: { AreAsked (arc_value program) call.args call.budget rights reads },
+    ghost complete: { IsComplete (arc_value program) call.args call.budget rights reads },
     ghost few: { length reads ≤ 6250 },
 }

@@ -2,7 +2,7 @@ ghost use Rattle.std.specs.Prelude.{◌≡◌, ◌+◌, ◌≤◌, length, nat_l
 ghost use Rattle.sp_base.specs.Limits.{IsKey};
 ghost use Rattle.ext_mean.specs.MeaningValues.{is_key, overwritten, part_of, word_of};
 
-use sp_base::{Blob, Key, Memory};
+use sp_base::{Blob, Key, MOST_KEY, Memory};
 use std::alloc::Global;
 
 /// Whether `count` bytes from a place on are within `length` bytes. The sum does not wrap.
@@ -16,7 +16,7 @@ pub fn fits(place: u64, count: u64, length: usize) -> bool
 pub fn is_key(key: &[u8]) -> bool
     ensures { result ≡ is_key key.now }
 {
-    1 <= key.len() && key.len() <= Key::MOST
+    1 <= key.len() && key.len() <= MOST_KEY
 }
 
 /// The key of bytes that are one.
@@ -36,7 +36,7 @@ pub fn key_of(alloc: Global, bytes: &[u8]) -> Result<Key, Memory>
 pub fn is_width(width: u64, length: usize) -> bool
     ensures { result ≡ (nat_le 1 width && nat_le width 64 && (length % width == 0)) }
 {
-    1 <= width && width <= Key::MOST as u64 && length as u64 % width == 0
+    1 <= width && width <= MOST_KEY as u64 && length as u64 % width == 0
 }
 
 /// The `count` bytes from a place on.

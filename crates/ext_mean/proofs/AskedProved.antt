@@ -1,13 +1,16 @@
 -- Lists of reads that a run asked.
-use Rattle.std.proofs.Common.{◌≡◌, ◌≢◌, ℕ, ◌+◌, Bool, true, false, List, [], ◌∷◌, ◌++◌, length, Option, Some, None, refl, sym, ◌∙◌, subst, eq-eqb, append_assoc, append-nil, length-append, if◌then◌else◌}
+use Rattle.std.proofs.Common.{◌≡◌, ◌≢◌, ℕ, zero, suc, ◌+◌, Bool, true, false, List, [], ◌∷◌, ◌++◌, length, Option, Some, None, slice_get, take, refl, sym, ◌∙◌, ap, subst, eq-eqb, append_assoc, append-nil, length-append, if◌then◌else◌}
+use Rattle.std.proofs.lemmas.Option.{same_Some}
 use Rattle.std.proofs.lemmas.Slice.Eq.{bytes_eq-Decides}
 use Rattle.sp_base.specs.declared.numbers.TableId.{TableId}
 use Rattle.sp_base.specs.declared.reads.ReadItem.{ReadItem}
 use Rattle.sp_base.specs.declared.rights.Level.{Level}
 use Rattle.sp_base.specs.Places.{Place, same_place}
 use Rattle.ext_mean.specs.declared.tree.Program.{Program}
-use Rattle.ext_mean.specs.Asked.{AskedBehind, IsWanted, WantedReadJoins, ReadsCost}
-use Rattle.ext_mean.specs.Laws.{Answered, NoneYet, OneMore}
+use Rattle.ext_mean.specs.Asked.{AreAsked, IsWanted, WantedReadJoins, ReadsCost}
+use Rattle.ext_mean.specs.declared.run.Run.{Run}
+use Rattle.ext_mean.specs.declared.run.Run.TheVariants.{Done, Trapped, Spent, Wants}
+use Rattle.ext_mean.specs.Laws.{Answered, NoneYet, OneMore, place_in}
 use Rattle.ext_mean.specs.Meaning.{mean}
 use Rattle.ext_mean.specs.Views.{Extends, part, place_of, value_read}
 use Rattle.ext_mean.proofs.WantsProved.{cost}
@@ -45,6 +48,21 @@ known-last (first ∷ reads) read none =
 extends-by : (reads more : List ReadItem) (rights : List (TableId × Level)) → Extends (part reads rights) (part (reads ++ more) rights)
 extends-by reads more rights = record { rights = refl; known = known-before reads more }
 
+-- a run that wants a place wants the record there
+wanted-run : (run : Run) (read : ReadItem) → IsWanted run read → (used : ℕ) × (run ≡ Wants read.table read.key used)
+wanted-run (Done reply writes used) read wanted = (cc)
+wanted-run (Trapped trap used) read wanted = (cc)
+wanted-run Spent read wanted = (cc)
+wanted-run (Wants table key used) read wanted =
+    let place : place_in table key ≡ place_of read = same_Some (place_in table key) (place_of read) wanted in
+    (used, ap (λ (p : Place). Wants (record { 0 = p.table }) p.key used) place)
+
+-- each of the later reads is wanted on those before it
+abbrev AskedBehind : Program → List ℕ → ℕ → List (TableId × Level) → List ReadItem → List ReadItem → Type 0
+AskedBehind program args budget rights earlier later =
+    (k : ℕ) (read : ReadItem) → slice_get later k ≡ Some read
+    → IsWanted (mean program args budget (part (earlier ++ take k later) rights)) read
+
 -- each read is one more want that was answered
 answered-behind : (program : Program) (args : List ℕ) (budget : ℕ) (rights : List (TableId × Level)) (earlier later : List ReadItem)
     → Answered program args budget (part earlier rights) (length earlier)
@@ -53,30 +71,35 @@ answered-behind : (program : Program) (args : List ℕ) (budget : ℕ) (rights :
 answered-behind program args budget rights earlier [] answered asked =
     subst (λ reads. Answered program args budget (part reads rights) (length reads)) (sym (append-nil earlier)) answered
 answered-behind program args budget rights earlier (read ∷ later) answered asked =
+    let wanted : IsWanted (mean program args budget (part earlier rights)) read =
+        subst (λ reads. IsWanted (mean program args budget (part reads rights)) read) (append-nil earlier) (asked 0 read refl) in
+    let run = wanted-run (mean program args budget (part earlier rights)) read wanted in
     let one : Answered program args budget (part (earlier ++ read ∷ []) rights) (length earlier + 1) =
-    OneMore (part earlier rights) (part (earlier ++ read ∷ []) rights) (length earlier) read.table read.key asked.0.0 answered asked.0.1 (extends-by earlier (read ∷ []) rights) (known-last earlier read) in
+    OneMore (part earlier rights) (part (earlier ++ read ∷ []) rights) (length earlier) read.table read.key run.0 answered run.1 (extends-by earlier (read ∷ []) rights) (known-last earlier read) in
     let many = length-append earlier (read ∷ []) in
     let next = subst (λ n. Answered program args budget (part (earlier ++ read ∷ []) rights) n) (sym many) one in
+    let behind : AskedBehind program args budget rights (earlier ++ read ∷ []) later = λ k other found.
+        subst (λ reads. IsWanted (mean program args budget (part reads rights)) other) (sym (append_assoc earlier (read ∷ []) (take k later))) (asked (suc k) other found) in
     subst (λ reads. Answered program args budget (part reads rights) (length reads)) (append_assoc earlier (read ∷ []) later)
-    (answered-behind program args budget rights (earlier ++ read ∷ []) later next asked.1)
+    (answered-behind program args budget rights (earlier ++ read ∷ []) later next behind)
 
 pub reads-cost : ReadsCost
 reads-cost program args budget rights reads table key used asked wants =
     cost program args budget (part reads rights) (length reads) table key used
-    (answered-behind program args budget rights [] reads (NoneYet (part [] rights)) asked.in_turn) wants
+    (answered-behind program args budget rights [] reads (NoneYet (part [] rights)) asked.each) wants
 
-joined-behind : (program : Program) (args : List ℕ) (budget : ℕ) (rights : List (TableId × Level)) (earlier later : List ReadItem) (read : ReadItem)
-    → AskedBehind program args budget rights earlier later
-    → IsWanted (mean program args budget (part (earlier ++ later) rights)) read
-    → AskedBehind program args budget rights earlier (later ++ read ∷ [])
-joined-behind program args budget rights earlier [] read asked wanted =
-    (subst (λ reads. IsWanted (mean program args budget (part reads rights)) read) (append-nil earlier) wanted, tt)
-joined-behind program args budget rights earlier (first ∷ later) read asked wanted = (
-  asked.0,
-  joined-behind program args budget rights (earlier ++ first ∷ []) later read asked.1
-      (subst (λ reads. IsWanted (mean program args budget (part reads rights)) read) (sym (append_assoc earlier (first ∷ []) later)) wanted),
-)
+-- what holds of each item and those before it holds with one more item, where it holds of this one
+joined-each : (Holds : List ReadItem → ReadItem → Type 0) (reads : List ReadItem) (last : ReadItem)
+    → ((k : ℕ) (read : ReadItem) → slice_get reads k ≡ Some read → Holds (take k reads) read)
+    → Holds reads last
+    → (k : ℕ) (read : ReadItem) → slice_get (reads ++ last ∷ []) k ≡ Some read → Holds (take k (reads ++ last ∷ [])) read
+joined-each Holds [] last each at_last zero read found = subst (λ (item : ReadItem). Holds [] item) (same_Some last read found) at_last
+joined-each Holds [] last each at_last (suc k) read found = (cc)
+joined-each Holds (first ∷ reads) last each at_last zero read found = each 0 read found
+joined-each Holds (first ∷ reads) last each at_last (suc k) read found =
+    joined-each (λ earlier item. Holds (first ∷ earlier) item) reads last (λ j item there. each (suc j) item there) at_last k read found
 
 pub read-joins : WantedReadJoins
-read-joins program args budget rights reads read asked wanted =
-    record { in_turn = joined-behind program args budget rights [] reads read asked.in_turn wanted }
+read-joins program args budget rights reads read asked wanted = record {
+  each = joined-each (λ earlier item. IsWanted (mean program args budget (part earlier rights)) item) reads read asked.each wanted;
+}

@@ -1,5 +1,5 @@
 -- Lists of reads that a run asked, one after another.
-use Rattle.std.specs.Prelude.{◌≡◌, ◌≢◌, ◌≤◌, ◌+◌, ◌*◌, ℕ, List, [], ◌∷◌, ◌++◌, length, None, All, if◌then◌else◌}
+use Rattle.std.specs.Prelude.{◌≡◌, ◌≢◌, ◌≤◌, ◌+◌, ◌*◌, ℕ, List, [], ◌∷◌, ◌++◌, length, Some, None, slice_get, take, All, if◌then◌else◌}
 use Rattle.std.specs.List.{IsDistinct}
 use Rattle.sp_base.specs.Places.{Place, same_place}
 use Rattle.sp_base.specs.declared.numbers.TableId.{TableId}
@@ -8,25 +8,25 @@ use Rattle.sp_base.specs.declared.rights.Level.{Level}
 use Rattle.ext_mean.specs.declared.tree.Program.{Program}
 use Rattle.ext_mean.specs.declared.run.Run.{Run}
 use Rattle.ext_mean.specs.declared.run.Run.TheVariants.{Wants}
-use Rattle.ext_mean.specs.Views.{View, part}
+use Rattle.ext_mean.specs.Outcomes.{wanted_by}
+use Rattle.ext_mean.specs.Views.{View, part, place_of}
 use Rattle.ext_mean.specs.Meaning.{mean}
 
 -- the run wants the record of this read
 abbrev pub IsWanted : Run → ReadItem → Type 0
-IsWanted run read = (used : ℕ) × (run ≡ Wants read.table read.key used)
+IsWanted run read = wanted_by run ≡ Some (place_of read)
 
--- each of the later reads is, in order, what the meaning wants on those before it
-abbrev pub AskedBehind :
-    Program → List ℕ → ℕ → List (TableId × Level) → List ReadItem → List ReadItem → Type 0
-AskedBehind program args budget rights earlier [] = Unit {0}
-AskedBehind program args budget rights earlier (read ∷ later) =
-    IsWanted (mean program args budget (part earlier rights)) read
-    × AskedBehind program args budget rights (earlier ++ read ∷ []) later
-
--- the reads are, in order, those that the meaning wants on the earlier ones
+-- the reads are, in order, those that the program asks for: it wants each on those before it
 pub record AreAsked (program : Program) (args : List ℕ) (budget : ℕ)
     (rights : List (TableId × Level)) (reads : List ReadItem) : Type 0 where
-  pub in_turn : AskedBehind program args budget rights [] reads
+  pub each : (k : ℕ) (read : ReadItem) → slice_get reads k ≡ Some read
+      → IsWanted (mean program args budget (part (take k reads) rights)) read
+
+-- on all of these reads the program wants nothing more
+abbrev pub IsComplete :
+    Program → List ℕ → ℕ → List (TableId × Level) → List ReadItem → Type 0
+IsComplete program args budget rights reads =
+    wanted_by (mean program args budget (part reads rights)) ≡ None
 
 -- a read that the meaning wants on the reads asked joins them
 abbrev pub WantedReadJoins : Type 0

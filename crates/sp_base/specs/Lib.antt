@@ -1,3 +1,5 @@
+pub mod Fields
 pub mod Limits
 pub mod Places
 pub mod RightsList
+pub mod Spelling

@@ -1,7 +1,8 @@
 -- Lists of rights: tables with their levels.
-use Rattle.std.specs.Prelude.{◌≢◌, ℕ, ◌+◌, ◌≤◌, ◌==◌, Bool, true, false, List, [], ◌∷◌, length, if◌then◌else◌}
+use Rattle.std.specs.Prelude.{◌≢◌, ℕ, ◌+◌, ◌≤◌, ◌^◌, ◌==◌, ◌&&◌, nat_lt, Bool, true, false, List, [], ◌∷◌, length, if◌then◌else◌}
 use Rattle.sp_base.specs.declared.rights.Level.{Level}
 use Rattle.sp_base.specs.declared.rights.Level.TheVariants.{Nothing, Read, Write}
+use Rattle.sp_base.specs.declared.limits.TheConstants.{MOST_RIGHTS}
 use Rattle.sp_base.specs.declared.numbers.TableId.{TableId}
 
 -- each table is at least this number, and above the one before it, and no level is Nothing
@@ -13,7 +14,7 @@ RisesFrom least (right ∷ rest) =
 -- the tables strictly increase, there are at most 64, and no level is Nothing
 pub record AreRights (list : List (TableId × Level)) : Type 0 where
   pub rising : RisesFrom 0 list
-  pub few : length list ≤ 64
+  pub few : length list ≤ MOST_RIGHTS
 
 -- the level of a table: Nothing where no right names it
 abbrev pub level_of : List (TableId × Level) → ℕ → Level
@@ -32,9 +33,13 @@ allows_write Nothing = false
 allows_write Read = false
 allows_write Write = true
 
--- whether these rights let a table be read, or written; a number of 2^32 or more is no table
+-- a table's number is below 2^32
+abbrev pub is_table : ℕ → Bool
+is_table number = nat_lt number (2 ^ 32)
+
+-- whether these rights let a table be read, or written: a number of 2^32 or more is no table
 abbrev pub can_read : List (TableId × Level) → ℕ → Bool
-can_read rights table = allows_read (level_of rights table)
+can_read rights table = allows_read (level_of rights table) && is_table table
 
 abbrev pub can_write : List (TableId × Level) → ℕ → Bool
-can_write rights table = allows_write (level_of rights table)
+can_write rights table = allows_write (level_of rights table) && is_table table

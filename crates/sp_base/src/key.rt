@@ -3,6 +3,7 @@ ghost use Rattle.std.specs.Str.{bytes_eq};
 ghost use Rattle.sp_base.specs.Limits.{IsKey};
 
 use crate::blob::same_bytes;
+use crate::limits::MOST_KEY;
 use crate::memory::Memory;
 use std::alloc::Global;
 use std::marker::Model;
@@ -38,15 +39,12 @@ impl Model for Key {
 }
 
 impl Key {
-    /// The greatest length of a key, in bytes.
-    pub const MOST: usize = 64;
-
     /// A key of these bytes.
     pub fn of(alloc: Global, bytes: &[u8]) -> Result<Key, KeyFault>
         ensures ok { IfOk result (λ key. key ≡ bytes.now) }
         ensures size { IsErrOf result KeyFault.Size ↔ (IsKey bytes.now → ⊥) }
     {
-        if bytes.is_empty() || bytes.len() > Key::MOST {
+        if bytes.is_empty() || bytes.len() > MOST_KEY {
             return Err(KeyFault::Size);
         }
         match Vec::from_slice(alloc, bytes) {

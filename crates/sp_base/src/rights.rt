@@ -35,9 +35,6 @@ impl Model for Rights {
 }
 
 impl Rights {
-    /// The most tables of one list of rights.
-    pub const MOST: usize = 64;
-
     /// The rights of this list.
     pub fn of(list: Vec<(TableId, Level)>) -> Rights
         requires { AreRights list.items }

@@ -7,7 +7,7 @@ use Rattle.std.proofs.lemmas.Bool.{ltb-false, lt-ltb, le-ltb, leb-true, le-leb, 
 use Rattle.std.proofs.lemmas.List.{take-append-drop, take_at, drop_at}
 use Rattle.std.proofs.lemmas.Option.{cond_some, same_Some}
 use Rattle.sp_base.specs.Limits.{IsKey}
-use Rattle.splinter.specs.Fields.{AreBytes, hex_digit, hex_pair, byte_field}
+use Rattle.sp_base.specs.Fields.{AreBytes, hex_digit, hex_pair, byte_field}
 use Rattle.splinter.specs.Reading.{◌>>=◌, word_at, digit_value, letter_value, hex_value, pair_at, with_byte, pairs_at, bytes_at, key_at}
 use Rattle.splinter.proofs.Numbers.{bind_some, cond_none, option_cases, digit_is, digit_again, NoDigit}
 

@@ -3,7 +3,7 @@ use Rattle.std.proofs.Common.{◌≡◌, ℕ, ◌^◌, ◌<◌, ◌≤◌, List,
 use Rattle.std.specs.Fmt.{decimal}
 use Rattle.std.proofs.lemmas.Option.{same_Some}
 use Rattle.sp_base.specs.Limits.{IsKey}
-use Rattle.splinter.specs.Fields.{AreBytes, byte_field}
+use Rattle.sp_base.specs.Fields.{AreBytes, byte_field}
 use Rattle.splinter.specs.Reading.{Reader, ◌>>=◌, word_at, number_at, same_at, bytes_at, key_at, after, after_number, before, both, mapped}
 use Rattle.splinter.proofs.Numbers.{bind_some, number_take, number_again}
 use Rattle.splinter.proofs.Bytes.{word_take, word_again, Ends, ends_numbers, bytes_take, bytes_again, key_take, key_again}

@@ -6,7 +6,7 @@ use Rattle.sp_base.specs.declared.rights.Level.{Level}
 use Rattle.sp_base.specs.declared.rights.Level.TheVariants.{Nothing, Read, Write}
 use Rattle.sp_base.specs.declared.numbers.TenantId.{TenantId}
 use Rattle.sp_base.specs.declared.calls.Call.{Call}
-use Rattle.splinter.specs.Fields.{byte_field}
+use Rattle.sp_base.specs.Fields.{byte_field}
 use Rattle.splinter.specs.Script.{newline, level_word, IsScriptCall}
 use Rattle.splinter.specs.Reading.{word_at, digit_value, hex_value, after}
 use Rattle.splinter.specs.ScriptLines.{u32_max, u64_max, level_at, next_number_at, tenant_line_at, table_line_at, put_line_at, extension_at, begin_line_at, BeginParts, call_of, call_at}

@@ -4,7 +4,7 @@ use Rattle.std.specs.Fmt.{decimal}
 use Rattle.std.specs.List.{concat}
 use Rattle.splinter.specs.declared.look_up.LookUp.{LookUp}
 use Rattle.splinter.specs.declared.script.Script.{Script}
-use Rattle.splinter.specs.Fields.{byte_field}
+use Rattle.sp_base.specs.Fields.{byte_field}
 use Rattle.splinter.specs.LookUps.{text_of}
 use Rattle.splinter.specs.Script.{newline, level_word, tenant_line, table_line, put_line, ext_line, begin_line, script_text}
 use Rattle.splinter.specs.ScriptLines.{Parts}

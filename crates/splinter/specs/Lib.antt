@@ -1,4 +1,3 @@
-pub mod Fields
 pub mod LookUps
 pub mod Script
 pub mod Reading

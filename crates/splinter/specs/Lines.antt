@@ -27,7 +27,7 @@ use Rattle.splinter.specs.declared.line.Prefix.{Prefix}
 use Rattle.splinter.specs.declared.line.Prefix.TheVariants as prefix
 use Rattle.splinter.specs.declared.line.Said.{Said}
 use Rattle.splinter.specs.declared.line.Said.TheVariants as said
-use Rattle.splinter.specs.Fields.{byte_field}
+use Rattle.sp_base.specs.Fields.{byte_field}
 
 -- further fields of a line: one space before each
 abbrev pub spaced : List (List ℕ) → List ℕ

@@ -8,7 +8,7 @@ use Rattle.sp_base.specs.declared.rights.Level.{Level}
 use Rattle.sp_base.specs.declared.rights.Level.TheVariants.{Nothing, Read, Write}
 use Rattle.sp_base.specs.Limits.{IsKey, IsValue, IsArguments}
 use Rattle.splinter.specs.declared.script.Script.{Script}
-use Rattle.splinter.specs.Fields.{AreBytes, byte_field}
+use Rattle.sp_base.specs.Fields.{AreBytes, byte_field}
 use Rattle.splinter.specs.LookUps.{text_of}
 
 -- the call is the tenant's, does not allow a push, and has its fields in their ranges

@@ -3,7 +3,7 @@
 ghost use Rattle.std.specs.Prelude.{◌≡◌, ◌<◌, ◌≤◌, IfOk, IfSome, Some, None, MatchOption};
 ghost use Rattle.splinter.specs.Reading.{Gives, word_at, digit_value, with_digit, digits_at, start_at, number_at, same_at, letter_value, hex_value, pair_at, pairs_at, bytes_at, key_at};
 
-use sp_base::{Blob, Key, KeyFault};
+use sp_base::{Blob, Key, KeyFault, MOST_KEY};
 use std::alloc::{AllocError, AllocFailed, Global};
 
 /// Why a field was not read.
@@ -206,7 +206,7 @@ pub fn blob(alloc: Global, text: &[u8], most: usize) -> Result<(Blob, &[u8]), Re
 pub fn key(alloc: Global, text: &[u8]) -> Result<(Key, &[u8]), ReadFault>
     ensures { Gives (λ x. (x.0, x.1.now)) result (key_at text.now) }
 {
-    let (bytes, rest) = blob(alloc, text, Key::MOST)?;
+    let (bytes, rest) = blob(alloc, text, MOST_KEY)?;
     match Key::of(alloc, bytes.bytes()) {
         Ok(key) => Ok((key, rest)),
         Err(KeyFault::Size) => Err(ReadFault::NoScript),

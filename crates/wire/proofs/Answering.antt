@@ -6,7 +6,7 @@ use Rattle.wire.specs.declared.items.Item.TheVariants.{Committed, Stale, Conflic
 use Rattle.wire.specs.Readers.{repeated}
 use Rattle.wire.specs.Fields.{byte_in, read_at, reads_at}
 use Rattle.wire.specs.Messages.{committed_at, stale_at, conflict_at, pushed_at, no_extension_at, batch_item_at, parked_item_at, items_at}
-use Rattle.wire.specs.Spelling.{u16, read, reads, FitReads}
+use Rattle.sp_base.specs.Spelling.{u16, read, reads, FitReads}
 use Rattle.wire.specs.Answers.{item, FitsItem, EndsInBatch, EndsParked, FitsBatchItem, FitsParkedItem, FitItems, install_answer, FitsInstallAnswer, fetch_answer, FitsFetchAnswer, put_answer, FitsPutAnswer, text_answer, FitsTextAnswer, answer, FitsAnswer, SpellsAnswer, BeginsAnswer, LongestAnswer}
 use Rattle.wire.specs.Answers as said
 use Rattle.wire.proofs.Formats.{Reads, Format, Shows, Makes, bind_reads, made_reads, done_reads, repeated_reads, as_format, format_of}

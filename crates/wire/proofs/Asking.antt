@@ -3,12 +3,13 @@ use Rattle.std.proofs.Common.{◌≡◌, ℕ, ◌-◌, inl, inr, List, ◌∷◌
 use Rattle.std.specs.List.{flat_map}
 use Rattle.std.proofs.lemmas.List.{take-append-drop}
 use Rattle.sp_base.specs.declared.calls.Asked.{Asked}
+use Rattle.sp_base.specs.Limits.{IsText}
 use Rattle.wire.specs.declared.requests.Request.{Request}
 use Rattle.wire.specs.declared.requests.Request.TheVariants.{Hello, Install, Batch, Fetch, Finish, Put, TextOf, Bye}
 use Rattle.wire.specs.Readers.{repeated, all_of}
 use Rattle.wire.specs.Fields.{long_at, asked_at, calls_at, write_at, writes_at}
 use Rattle.wire.specs.Messages.{hello_at, fetch_at, finish_at, put_at, request_at}
-use Rattle.wire.specs.Spelling.{u16, long, IsText, write, writes, FitWrites, asked, FitsAsked, asked_calls, FitCalls}
+use Rattle.sp_base.specs.Spelling.{u16, long, write, writes, FitWrites, asked, FitsAsked, asked_calls, FitCalls}
 use Rattle.wire.specs.Requests.{request, FitsRequest, SpellsRequest, LongestRequest}
 use Rattle.wire.proofs.Formats.{IsBytes, Reads, Format, Shows, Makes, bind_reads, made_reads, done_reads, repeated_reads, as_format, format_of}
 use Rattle.wire.proofs.Choices.{arms, no_arms, tagged_reads}

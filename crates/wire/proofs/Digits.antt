@@ -7,7 +7,7 @@ use Rattle.std.proofs.lemmas.List.{take_at, drop_at, take-append-drop, length-ap
 use Rattle.std.proofs.lemmas.Nat.{be_bytes_2, be_bytes_4, be_bytes_8, from_be_bytes-to_be_bytes_4, from_be_bytes-to_be_bytes_8}
 use Rattle.wire.specs.Readers.{made}
 use Rattle.wire.specs.Fields.{byte_in, number_at, bytes_at, low_least, low_most, u16_in, u32_in}
-use Rattle.wire.specs.Spelling.{u16, u32}
+use Rattle.sp_base.specs.Spelling.{u16, u32}
 use Rattle.wire.proofs.Formats.{IsBytes, Begins, Reads, Format, Shows, Makes, ok_is, ok_err, bind_reads, made_reads, as_format, format_of}
 
 -- ---- a byte

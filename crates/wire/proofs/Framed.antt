@@ -1,7 +1,7 @@
 -- A frame is its length and its body.
 use Rattle.std.proofs.Common.{◌≡◌, ℕ, ◌+◌, ◌-◌, ◌≤◌, List, [], ◌++◌, length, drop, refl, ap, ◌∙◌, arith}
 use Rattle.std.proofs.lemmas.List.{length-append, drop_at}
-use Rattle.wire.specs.Spelling.{u32, frame}
+use Rattle.sp_base.specs.Spelling.{u32, frame}
 
 pub length_u32 : (n : ℕ) → length (u32 n) ≡ 4
 unfolding u32

@@ -12,7 +12,7 @@ use Rattle.sp_base.specs.declared.writes.Change.TheVariants as changes
 use Rattle.sp_base.specs.declared.writes.Write.{Write}
 use Rattle.wire.specs.Readers.{bind, made}
 use Rattle.wire.specs.Fields.{number_at, bytes_at, key_at, long_at, flag_at, opt_at, trap_of, done_at, outcome_at, change_of, change_at, write_at, read_at}
-use Rattle.wire.specs.Spelling.{u16, u32, u64, IsU32, IsU64, key, long, flag, opt, FitsOpt, trap_number, outcome, FitsOutcome, change, FitsChange, write, FitsWrite, read, FitsRead}
+use Rattle.sp_base.specs.Spelling.{u16, u32, u64, IsU32, IsU64, key, long, flag, opt, FitsOpt, trap_number, outcome, FitsOutcome, change, FitsChange, write, FitsWrite, read, FitsRead}
 use Rattle.wire.proofs.Formats.{Reads, Format, Shows, Makes, bind_reads, made_reads, done_reads, as_format, format_of}
 use Rattle.wire.proofs.Choices.{arms, no_arms, tagged_reads}
 use Rattle.wire.proofs.Digits.{IsIn, byte_reads, bytes_reads, number_reads, wide32, wide64, u16_reads}

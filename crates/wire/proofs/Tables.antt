@@ -8,7 +8,7 @@ use Rattle.sp_base.specs.declared.rights.Level.{Level}
 use Rattle.sp_base.specs.declared.rights.Level.TheVariants as levels
 use Rattle.wire.specs.Readers.{made}
 use Rattle.wire.specs.Fields.{byte_in, level_of_number, right_in, tables_from, rights_at}
-use Rattle.wire.specs.Spelling.{u32, IsU32, level_number, right, rights, FitRights}
+use Rattle.sp_base.specs.Spelling.{u32, IsU32, level_number, right, rights, FitRights}
 use Rattle.wire.proofs.Formats.{IsBytes, IsBytes-behind, Reads, Format, bind_reads, made_reads, done_reads, as_value, as_format, format_of}
 use Rattle.wire.proofs.Digits.{IsIn, byte_reads, u32_reads}
 

@@ -1,7 +1,7 @@
 -- The one spelling of each answer, and which answers have one.
 use Rattle.std.specs.Prelude.{◌≡◌, ℕ, ◌≤◌, List, [], ◌∷◌, ◌++◌, length, take}
 use Rattle.std.specs.List.{flat_map, AllByRecursion}
-use Rattle.sp_base.specs.Limits.{IsKey}
+use Rattle.sp_base.specs.Limits.{IsKey, IsText}
 use Rattle.wire.specs.declared.answers.Answer.{Answer}
 use Rattle.wire.specs.declared.answers.Answer.TheVariants.{Welcome, Installed, Answers, Fetched, Finished, PutDone, Text, Fault}
 use Rattle.wire.specs.declared.answers.FetchAnswer.{FetchAnswer}
@@ -14,7 +14,7 @@ use Rattle.wire.specs.declared.answers.TextAnswer.{TextAnswer}
 use Rattle.wire.specs.declared.answers.TextAnswer.TheVariants as texts
 use Rattle.wire.specs.declared.items.Item.{Item}
 use Rattle.wire.specs.declared.items.Item.TheVariants.{Committed, Stale, Conflict, Pushed, Full, Busy, Repeated, NoExtension, BadBudget, Memory, Foreign, Shape, Lied, NotParked}
-use Rattle.wire.specs.Spelling.{u16, u32, u64, IsU32, IsU64, key, long, IsText, opt, FitsOpt, outcome, FitsOutcome, reads, FitReads, rights, FitRights}
+use Rattle.sp_base.specs.Spelling.{u16, u32, u64, IsU32, IsU64, key, long, opt, FitsOpt, outcome, FitsOutcome, reads, FitReads, rights, FitRights}
 
 -- the number is from least to most
 pub record IsIn (least most n : ℕ) : Type 0 where

@@ -1,9 +1,9 @@
 -- The one spelling of each request, and which requests have one.
 use Rattle.std.specs.Prelude.{◌≡◌, ℕ, ◌≤◌, List, [], ◌∷◌, ◌++◌, length, take}
-use Rattle.sp_base.specs.Limits.{IsKey, IsValue}
+use Rattle.sp_base.specs.Limits.{IsKey, IsValue, IsText}
 use Rattle.wire.specs.declared.requests.Request.{Request}
 use Rattle.wire.specs.declared.requests.Request.TheVariants.{Hello, Install, Batch, Fetch, Finish, Put, TextOf, Bye}
-use Rattle.wire.specs.Spelling.{u32, u64, IsU32, IsU64, key, long, IsText, outcome, FitsOutcome, writes, FitWrites, asked_calls, FitCalls}
+use Rattle.sp_base.specs.Spelling.{u32, u64, IsU32, IsU64, key, long, outcome, FitsOutcome, writes, FitWrites, asked_calls, FitCalls}
 
 abbrev pub request_kind : Request → ℕ
 request_kind (Hello tenant secret) = 1

@@ -1,7 +1,7 @@
 ghost use Rattle.std.specs.Prelude.{◌≡◌, ◌+◌, ◌-◌, ◌<◌, ◌≤◌, ◌^◌, ◌++◌, ℕ, List, IfOk, drop, length};
 ghost use Rattle.wire.specs.Answers.{answer, FitsAnswer, SpellsAnswer};
 ghost use Rattle.wire.specs.Requests.{FitsRequest, request, SpellsRequest};
-ghost use Rattle.wire.specs.Spelling.{frame, u32};
+ghost use Rattle.sp_base.specs.Spelling.{frame, u32};
 ghost use Rattle.wire.specs.declared.answers.Answer.{Answer};
 ghost use Rattle.wire.specs.declared.requests.Request.{Request};
 
@@ -15,7 +15,7 @@ use sp_base::{Blob, Memory};
 use std::alloc::Global;
 
 /// Writes a number over the first four bytes.
-#[tactic(auto, unfolding(crate::specs::Spelling::u32))]
+#[tactic(auto, unfolding(sp_base::specs::Spelling::u32))]
 fn write_front(bytes: &mut [u8], n: u32)
     requires { 4 ≤ length bytes.old }
     ensures { bytes.new ≡ u32 n ++ drop 4 bytes.old }

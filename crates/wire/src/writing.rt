@@ -1,11 +1,11 @@
 ghost use Rattle.std.specs.Prelude.{◌≡◌, ◌<◌, ◌≤◌, ◌++◌, length, OnOk};
-ghost use Rattle.wire.specs.Spelling.{asked, change, flag, FitsAsked, FitsChange, FitsOpt, FitsOutcome, FitsRead, FitsWrite, key, long, opt, outcome, read, trap_number, u16, u32, u64, write};
+ghost use Rattle.sp_base.specs.Spelling.{asked, change, flag, FitsAsked, FitsChange, FitsOpt, FitsOutcome, FitsRead, FitsWrite, key, long, opt, outcome, read, trap_number, u16, u32, u64, write};
 
 use bytes::BufMut;
 use sp_base::{Asked, Blob, Change, Key, Memory, Outcome, ReadItem, Trap, Write};
 
 /// Adds a number of two bytes.
-#[tactic(auto, unfolding(crate::specs::Spelling::u16))]
+#[tactic(auto, unfolding(sp_base::specs::Spelling::u16))]
 pub fn put_u16(out: &mut Vec<u8>, n: u16) -> Result<(), Memory>
     ensures { OnOk result (out.new.items ≡ out.old.items ++ u16 n) }
 {
@@ -14,7 +14,7 @@ pub fn put_u16(out: &mut Vec<u8>, n: u16) -> Result<(), Memory>
 }
 
 /// Adds a number of four bytes.
-#[tactic(auto, unfolding(crate::specs::Spelling::u32))]
+#[tactic(auto, unfolding(sp_base::specs::Spelling::u32))]
 pub fn put_u32(out: &mut Vec<u8>, n: u32) -> Result<(), Memory>
     ensures { OnOk result (out.new.items ≡ out.old.items ++ u32 n) }
 {
@@ -23,7 +23,7 @@ pub fn put_u32(out: &mut Vec<u8>, n: u32) -> Result<(), Memory>
 }
 
 /// Adds a number of eight bytes.
-#[tactic(auto, unfolding(crate::specs::Spelling::u64))]
+#[tactic(auto, unfolding(sp_base::specs::Spelling::u64))]
 pub fn put_u64(out: &mut Vec<u8>, n: u64) -> Result<(), Memory>
     ensures { OnOk result (out.new.items ≡ out.old.items ++ u64 n) }
 {

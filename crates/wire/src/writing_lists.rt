@@ -1,6 +1,6 @@
 ghost use Rattle.std.specs.Prelude.{◌≡◌, ◌≤◌, ◌++◌, length, OnOk};
 ghost use Rattle.std.specs.List.{flat_map, AllByRecursion};
-ghost use Rattle.wire.specs.Spelling.{asked, asked_calls, FitCalls, FitReads, FitRights, FitWrites, FitsAsked, FitsRead, FitsWrite, level_number, read, reads, right, rights, write, writes};
+ghost use Rattle.sp_base.specs.Spelling.{asked, asked_calls, FitCalls, FitReads, FitRights, FitWrites, FitsAsked, FitsRead, FitsWrite, level_number, read, reads, right, rights, write, writes};
 ghost use Rattle.wire.specs.Answers.{FitItems, FitsBatchItem, item, items_of};
 
 use crate::items::{Item, Items};

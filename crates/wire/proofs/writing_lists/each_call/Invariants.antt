@@ -1,6 +1,6 @@
 use Rattle.std.proofs.Common.{◌≡◌, ◌++◌, take}
 use Rattle.std.specs.List.{flat_map}
-use Rattle.wire.specs.Spelling.{asked}
+use Rattle.sp_base.specs.Spelling.{asked}
 use Rattle.wire.proofs.writing_lists.each_call.Given as goal
 
 abbrev pub invariant-loop-next : goal.invariant-loop-next

@@ -21,7 +21,7 @@ append-requires-clause-sound c =
     c.requires.arguments done.few done.meant))
     (rw c.without_values.ensures
     (run-legal book.grants book.journal done.call (arc_value done.program) done.reads done.rights done.outcome done.writes
-    c.requires.rights c.requires.named c.requires.held c.requires.still done.asked done.meant))
+    c.requires.rights c.requires.named c.requires.held c.requires.still (record { asked = done.asked; complete = done.complete }) done.meant))
     c.requires.in_order
     (rw c.without_values.ensures
     (run-within book.grants done.call (arc_value done.program) done.reads done.rights done.outcome done.writes

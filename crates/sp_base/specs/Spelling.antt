@@ -41,11 +41,6 @@ key bytes = length bytes ∷ bytes
 abbrev pub long : List ℕ → List ℕ
 long bytes = u16 (length bytes) ++ bytes
 
--- an extension's text has from 1 to 16,384 bytes
-pub record IsText (bytes : List ℕ) : Type 0 where
-  pub some : 1 ≤ length bytes
-  pub short : length bytes ≤ 16384
-
 abbrev pub flag : Bool → List ℕ
 flag false = 0 ∷ []
 flag true = 1 ∷ []
