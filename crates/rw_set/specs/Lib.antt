@@ -1,2 +1,1 @@
 pub mod ReadLists
-pub mod Facts
