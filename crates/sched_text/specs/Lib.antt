@@ -3,7 +3,10 @@ pub mod Results
 pub mod Fields
 pub mod Reading
 pub mod Texts
+pub mod Firsts
+pub mod Ends
 pub mod Lines
 pub mod Tenants
 pub mod Drafts
+pub mod Fits
 pub mod Judged

@@ -1,6 +1,8 @@
 //! The fields of a line, and the values that they spell.
 
-ghost use Rattle.std.specs.Prelude.{◌≡◌, ◌≤◌, ◌<◌, ℕ, IfOk, IfSome, length, map, Some, None, option_map, nat_le, option_and_then, if◌then◌else◌};
+ghost use Rattle.std.specs.Prelude.{◌≡◌, ◌≢◌, ◌≤◌, ◌<◌, ℕ, IfOk, IfSome, length, map, Some, None, option_map, nat_le, option_and_then, if◌then◌else◌};
+ghost use Rattle.sp_base.specs.Limits.{IsKey};
+ghost use Rattle.sched_text.specs.Fits.{IsWithin};
 ghost use Rattle.sched_text.specs.Results.{Gives};
 ghost use Rattle.sched_text.specs.Reading.{digits_within};
 ghost use Rattle.sched_text.specs.Fields.{cut, fields_of, field, digit_value, letter_value, hex_value, byte_of, number_of, pairs_of, bytes_of, number_field, bytes_field, level_field, push_field, at_most, next_digit};
@@ -106,7 +108,7 @@ fn spelled(text: &[u8], most: u64) -> Option<u64>
 #[tactic(auto, unfolding(crate::specs::Fields::number_field))]
 pub fn number(text: &[u8], least: u64, most: u64) -> Result<u64, LineFault>
     ensures value { Gives (λ n. n) result (number_field least most text.now) }
-    ensures within { IfOk result (λ number. number ≤ most) }
+    ensures within { IfOk result (IsWithin least most) }
 {
     match spelled(text, most) {
         Some(number) if number >= least => Ok(number),
@@ -116,7 +118,8 @@ pub fn number(text: &[u8], least: u64, most: u64) -> Result<u64, LineFault>
 
 /// A number of 32 bits, of this range.
 pub fn small(text: &[u8], least: u32, most: u32) -> Result<u32, LineFault>
-    ensures { Gives (λ n. n) result (number_field least most text.now) }
+    ensures value { Gives (λ n. n) result (number_field least most text.now) }
+    ensures within { IfOk result (IsWithin least most) }
 {
     let number = number(text, u64::from(least), u64::from(most))?;
     Ok(number as u32)
@@ -204,7 +207,8 @@ pub fn blob(alloc: Global, text: &[u8], least: usize, most: usize) -> Result<Blo
 
 /// A key.
 pub fn key(alloc: Global, text: &[u8]) -> Result<Key, LineFault>
-    ensures { Gives (λ key. key) result (bytes_field 1 64 text.now) }
+    ensures value { Gives (λ key. key) result (bytes_field 1 64 text.now) }
+    ensures size { IfOk result IsKey }
 {
     let blob = blob(alloc, text, 1, Key::MOST)?;
     match Key::of(alloc, blob.bytes()) {
@@ -217,7 +221,8 @@ pub fn key(alloc: Global, text: &[u8]) -> Result<Key, LineFault>
 /// `read` or `write`.
 #[tactic(auto, unfolding(crate::specs::Fields::level_field))]
 pub fn level(text: &[u8]) -> Result<Level, LineFault>
-    ensures { Gives (λ level. level) result (level_field text.now) }
+    ensures value { Gives (λ level. level) result (level_field text.now) }
+    ensures some { IfOk result (λ level. level ≢ Level.Nothing) }
 {
     if same_bytes(text, b"read") {
         Ok(Level::Read)

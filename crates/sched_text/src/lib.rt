@@ -14,6 +14,7 @@ mod read;
 mod rows;
 mod script;
 mod tenants;
+mod texts;
 
 pub use calls::{CallItem, CallScript};
 pub use code::LineCode;

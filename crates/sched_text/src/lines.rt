@@ -1,6 +1,7 @@
 //! Reads each line of a script by itself.
 
-ghost use Rattle.std.specs.Prelude.{◌≡◌, map};
+ghost use Rattle.std.specs.Prelude.{◌≡◌, map, IfOk};
+ghost use Rattle.sched_text.specs.Fits.{LineFits};
 ghost use Rattle.sched_text.specs.Results.{Gives};
 ghost use Rattle.sched_text.specs.Lines.{word_of, has_line, word_field, counted, tenant_line, table_line, policy_line, limit_line, workers_line, put_line, ext_line, begin_line, turn_line, steal_line, away_line, cut_line, line_of_word, line_of};
 
@@ -85,7 +86,8 @@ fn counted(fields: &[&[u8]], count: usize) -> Result<(), LineFault>
 /// `tenant T KEY`
 #[tactic(auto, unfolding(crate::specs::Lines::tenant_line))]
 fn tenant_line(fields: &[&[u8]]) -> Result<ScriptLine, LineFault>
-    ensures { Gives (λ line. line) result (tenant_line (map (λ x. x.now) fields.now)) }
+    ensures value { Gives (λ line. line) result (tenant_line (map (λ x. x.now) fields.now)) }
+    ensures fits { IfOk result LineFits }
 {
     counted(fields, 3)?;
     let tenant = TenantId(small(field(fields, 1), 0, u32::MAX)?);
@@ -96,7 +98,8 @@ fn tenant_line(fields: &[&[u8]]) -> Result<ScriptLine, LineFault>
 /// `table N T LEVEL`
 #[tactic(auto, unfolding(crate::specs::Lines::table_line))]
 fn table_line(fields: &[&[u8]]) -> Result<ScriptLine, LineFault>
-    ensures { Gives (λ line. line) result (table_line (map (λ x. x.now) fields.now)) }
+    ensures value { Gives (λ line. line) result (table_line (map (λ x. x.now) fields.now)) }
+    ensures fits { IfOk result LineFits }
 {
     counted(fields, 4)?;
     let table = TableId(small(field(fields, 1), 0, u32::MAX)?);
@@ -112,7 +115,8 @@ fn table_line(fields: &[&[u8]]) -> Result<ScriptLine, LineFault>
 /// `policy HIGH LEAST`
 #[tactic(auto, unfolding(crate::specs::Lines::policy_line))]
 fn policy_line(fields: &[&[u8]]) -> Result<ScriptLine, LineFault>
-    ensures { Gives (λ line. line) result (policy_line (map (λ x. x.now) fields.now)) }
+    ensures value { Gives (λ line. line) result (policy_line (map (λ x. x.now) fields.now)) }
+    ensures fits { IfOk result LineFits }
 {
     counted(fields, 3)?;
     let high = small(field(fields, 1), 0, u32::MAX)?;
@@ -123,7 +127,8 @@ fn policy_line(fields: &[&[u8]]) -> Result<ScriptLine, LineFault>
 /// `limit N`
 #[tactic(auto, unfolding(crate::specs::Lines::limit_line))]
 fn limit_line(fields: &[&[u8]]) -> Result<ScriptLine, LineFault>
-    ensures { Gives (λ line. line) result (limit_line (map (λ x. x.now) fields.now)) }
+    ensures value { Gives (λ line. line) result (limit_line (map (λ x. x.now) fields.now)) }
+    ensures fits { IfOk result LineFits }
 {
     counted(fields, 2)?;
     let limit = number(field(fields, 1), 1, 1_048_576)?;
@@ -133,7 +138,8 @@ fn limit_line(fields: &[&[u8]]) -> Result<ScriptLine, LineFault>
 /// `workers N`
 #[tactic(auto, unfolding(crate::specs::Lines::workers_line))]
 fn workers_line(fields: &[&[u8]]) -> Result<ScriptLine, LineFault>
-    ensures { Gives (λ line. line) result (workers_line (map (λ x. x.now) fields.now)) }
+    ensures value { Gives (λ line. line) result (workers_line (map (λ x. x.now) fields.now)) }
+    ensures fits { IfOk result LineFits }
 {
     counted(fields, 2)?;
     let workers = small(field(fields, 1), 1, 64)?;
@@ -143,7 +149,8 @@ fn workers_line(fields: &[&[u8]]) -> Result<ScriptLine, LineFault>
 /// `put T N KEY VALUE`
 #[tactic(auto, unfolding(crate::specs::Lines::put_line))]
 fn put_line(alloc: Global, fields: &[&[u8]]) -> Result<ScriptLine, LineFault>
-    ensures { Gives (λ line. line) result (put_line (map (λ x. x.now) fields.now)) }
+    ensures value { Gives (λ line. line) result (put_line (map (λ x. x.now) fields.now)) }
+    ensures fits { IfOk result LineFits }
 {
     counted(fields, 5)?;
     let tenant = TenantId(small(field(fields, 1), 0, u32::MAX)?);
@@ -161,7 +168,8 @@ fn put_line(alloc: Global, fields: &[&[u8]]) -> Result<ScriptLine, LineFault>
 /// `ext T LINES`
 #[tactic(auto, unfolding(crate::specs::Lines::ext_line))]
 fn ext_line(fields: &[&[u8]]) -> Result<ScriptLine, LineFault>
-    ensures { Gives (λ line. line) result (ext_line (map (λ x. x.now) fields.now)) }
+    ensures value { Gives (λ line. line) result (ext_line (map (λ x. x.now) fields.now)) }
+    ensures fits { IfOk result LineFits }
 {
     counted(fields, 3)?;
     let tenant = TenantId(small(field(fields, 1), 0, u32::MAX)?);
@@ -172,7 +180,8 @@ fn ext_line(fields: &[&[u8]]) -> Result<ScriptLine, LineFault>
 /// `begin W T C NO EXT BUDGET PUSH ARGS`
 #[tactic(auto, unfolding(crate::specs::Lines::begin_line))]
 fn begin_line(alloc: Global, fields: &[&[u8]]) -> Result<ScriptLine, LineFault>
-    ensures { Gives (λ line. line) result (begin_line (map (λ x. x.now) fields.now)) }
+    ensures value { Gives (λ line. line) result (begin_line (map (λ x. x.now) fields.now)) }
+    ensures fits { IfOk result LineFits }
 {
     counted(fields, 9)?;
     let worker = small(field(fields, 1), 0, u32::MAX)?;
@@ -200,7 +209,8 @@ fn begin_line(alloc: Global, fields: &[&[u8]]) -> Result<ScriptLine, LineFault>
 /// `turn W Q`
 #[tactic(auto, unfolding(crate::specs::Lines::turn_line))]
 fn turn_line(fields: &[&[u8]]) -> Result<ScriptLine, LineFault>
-    ensures { Gives (λ line. line) result (turn_line (map (λ x. x.now) fields.now)) }
+    ensures value { Gives (λ line. line) result (turn_line (map (λ x. x.now) fields.now)) }
+    ensures fits { IfOk result LineFits }
 {
     counted(fields, 3)?;
     let worker = small(field(fields, 1), 0, u32::MAX)?;
@@ -211,7 +221,8 @@ fn turn_line(fields: &[&[u8]]) -> Result<ScriptLine, LineFault>
 /// `steal W V`
 #[tactic(auto, unfolding(crate::specs::Lines::steal_line))]
 fn steal_line(fields: &[&[u8]]) -> Result<ScriptLine, LineFault>
-    ensures { Gives (λ line. line) result (steal_line (map (λ x. x.now) fields.now)) }
+    ensures value { Gives (λ line. line) result (steal_line (map (λ x. x.now) fields.now)) }
+    ensures fits { IfOk result LineFits }
 {
     counted(fields, 3)?;
     let worker = small(field(fields, 1), 0, u32::MAX)?;
@@ -222,7 +233,8 @@ fn steal_line(fields: &[&[u8]]) -> Result<ScriptLine, LineFault>
 /// `away T C`
 #[tactic(auto, unfolding(crate::specs::Lines::away_line))]
 fn away_line(fields: &[&[u8]]) -> Result<ScriptLine, LineFault>
-    ensures { Gives (λ line. line) result (away_line (map (λ x. x.now) fields.now)) }
+    ensures value { Gives (λ line. line) result (away_line (map (λ x. x.now) fields.now)) }
+    ensures fits { IfOk result LineFits }
 {
     counted(fields, 3)?;
     let tenant = TenantId(small(field(fields, 1), 0, u32::MAX)?);
@@ -233,7 +245,8 @@ fn away_line(fields: &[&[u8]]) -> Result<ScriptLine, LineFault>
 /// `cut T C`
 #[tactic(auto, unfolding(crate::specs::Lines::cut_line))]
 fn cut_line(fields: &[&[u8]]) -> Result<ScriptLine, LineFault>
-    ensures { Gives (λ line. line) result (cut_line (map (λ x. x.now) fields.now)) }
+    ensures value { Gives (λ line. line) result (cut_line (map (λ x. x.now) fields.now)) }
+    ensures fits { IfOk result LineFits }
 {
     counted(fields, 3)?;
     let tenant = TenantId(small(field(fields, 1), 0, u32::MAX)?);
@@ -243,7 +256,8 @@ fn cut_line(fields: &[&[u8]]) -> Result<ScriptLine, LineFault>
 
 /// What the fields of a line of this word say.
 fn line_of_word(alloc: Global, word: Word, fields: &[&[u8]]) -> Result<ScriptLine, LineFault>
-    ensures { Gives (λ line. line) result (line_of_word word (map (λ x. x.now) fields.now)) }
+    ensures value { Gives (λ line. line) result (line_of_word word (map (λ x. x.now) fields.now)) }
+    ensures fits { IfOk result LineFits }
 {
     match word {
         Word::Tenant => tenant_line(fields),
@@ -264,7 +278,8 @@ fn line_of_word(alloc: Global, word: Word, fields: &[&[u8]]) -> Result<ScriptLin
 /// What a line of a script says.
 #[tactic(auto, unfolding(crate::specs::Lines::line_of))]
 pub fn line_of(alloc: Global, kind: Kind, line: &[u8]) -> Result<ScriptLine, LineFault>
-    ensures { Gives (λ line. line) result (line_of kind line.now) }
+    ensures value { Gives (λ line. line) result (line_of kind line.now) }
+    ensures fits { IfOk result LineFits }
 {
     let fields = fields(alloc, line)?;
     let word = word(kind, field(fields.as_slice(), 0))?;

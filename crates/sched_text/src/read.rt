@@ -1,22 +1,83 @@
 //! Reads whole scripts.
 
-ghost use Rattle.sched_text.specs.Judged.{judged, Answers};
+ghost use Rattle.std.specs.Prelude.{◌≡◌, IfOk};
+ghost use Rattle.sched_text.specs.Fits.{IsScript};
+ghost use Rattle.sched_text.specs.Drafts.{no_lines};
+ghost use Rattle.sched_text.specs.Judged.{judged, judged_from, Answers};
+ghost use Rattle.sched_text.specs.Texts.{lines_of};
 ghost use Rattle.sched_text.specs.declared.line.Kind.TheVariants.{Play, SetUp};
 
+use crate::code::LineCode;
+use crate::draft::Draft;
 use crate::fault::ScriptFault;
+use crate::line::{Kind, LineFault};
 use crate::script::Script;
+use crate::texts::{behind_lines, first_line};
 use std::alloc::Global;
+
+/// The most bytes of a script.
+pub const MOST_BYTES: usize = 4_194_304;
+
+/// The most lines of a script.
+pub const MOST_LINES: u32 = 65_536;
 
 /// The script that a text spells, or its first bad line.
 pub fn read_script(alloc: Global, text: &[u8]) -> Result<Script, ScriptFault>
-    ensures { Answers result (judged Play text.now) }
+    ensures answer { Answers result (judged Play text.now) }
+    ensures fits { IfOk result IsScript }
 {
-    Err(ScriptFault::Memory)
+    read(alloc, Kind::Play, text)
 }
 
 /// The script that a text spells to set a server up, or its first bad line.
 pub fn read_setup(alloc: Global, text: &[u8]) -> Result<Script, ScriptFault>
-    ensures { Answers result (judged SetUp text.now) }
+    ensures answer { Answers result (judged SetUp text.now) }
+    ensures fits { IfOk result IsScript }
 {
-    Err(ScriptFault::Memory)
+    read(alloc, Kind::SetUp, text)
+}
+
+/// The script of this kind that a text spells, or its first bad line.
+#[tactic(auto, unfolding(crate::specs::Judged::judged))]
+fn read(alloc: Global, kind: Kind, text: &[u8]) -> Result<Script, ScriptFault>
+    ensures answer { Answers result (judged kind text.now) }
+    ensures fits { IfOk result IsScript }
+{
+    if text.len() > MOST_BYTES {
+        return Err(bad_line(0, LineCode::Long));
+    }
+    read_lines(alloc, kind, text)
+}
+
+/// A line is bad.
+fn bad_line(line: u32, code: LineCode) -> ScriptFault
+    ensures { result ≡ ScriptFault.BadLine line code }
+{
+    ScriptFault::BadLine { line, code }
+}
+
+/// The script that these lines spell, or the first bad one.
+fn read_lines(alloc: Global, kind: Kind, text: &[u8]) -> Result<Script, ScriptFault>
+    ensures answer { Answers result (judged_from kind 1 0 no_lines (lines_of text.now)) }
+    ensures fits { IfOk result IsScript }
+{
+    let mut draft = Draft::new(alloc);
+    let mut rest = text;
+    let mut number = 1;
+    while let Some((line, behind)) = first_line(rest) {
+        if number > MOST_LINES {
+            return Err(bad_line(number, LineCode::Many));
+        }
+        let taken = match draft.read_line(alloc, kind, number, line, behind) {
+            Ok(taken) => taken,
+            Err(LineFault::Code(code)) => return Err(bad_line(number, code)),
+            Err(LineFault::Memory) => return Err(ScriptFault::Memory),
+        };
+        number += 1 + taken;
+        if number > MOST_LINES + 1 {
+            return Err(bad_line(MOST_LINES + 1, LineCode::Many));
+        }
+        rest = behind_lines(behind, taken);
+    }
+    Ok(draft.into_script())
 }
