@@ -17,11 +17,8 @@ use crate::rows::Rows;
 use crate::script::{Head, Script};
 use crate::tenants::{grant, has_table, has_tenant, insert, rights_of};
 use crate::texts::{end_of_lines, is_skipped};
-use sp_base::{Blob, Memory, Policy, Rights, TenantId};
+use sp_base::{Blob, MOST_ENTRIES, MOST_RIGHTS, MOST_TENANTS, Memory, Policy, Rights, TenantId};
 use std::alloc::Global;
-
-/// The most tenants of a script.
-pub const MOST_TENANTS: usize = 1024;
 
 /// A script as far as its lines were read.
 #[derive(Debug, Drop)]
@@ -188,7 +185,7 @@ impl Draft {
         match line {
             ScriptLine::Tenant { .. } => self.rights.len() >= MOST_TENANTS,
             ScriptLine::Table { tenant, .. } => {
-                rights_of(self.rights.as_slice(), *tenant).len() >= Rights::MOST
+                rights_of(self.rights.as_slice(), *tenant).len() >= MOST_RIGHTS
             }
             _ => false,
         }
@@ -327,7 +324,7 @@ impl Draft {
                 high: 64,
                 least: 1000,
             }),
-            limit: limit.unwrap_or(1_048_576),
+            limit: limit.unwrap_or(MOST_ENTRIES),
             workers,
         };
         Script { head, events }

@@ -9,7 +9,7 @@ ghost use Rattle.sched_text.specs.Fields.{cut, fields_of, field, digit_value, le
 
 use crate::code::LineCode;
 use crate::line::LineFault;
-use sp_base::{Blob, Key, KeyFault, Level, Memory, same_bytes};
+use sp_base::{Blob, Key, KeyFault, Level, MOST_KEY, Memory, same_bytes};
 use std::alloc::Global;
 
 /// What stands before the first such byte, and what follows it, if there is one.
@@ -210,7 +210,7 @@ pub fn key(alloc: Global, text: &[u8]) -> Result<Key, LineFault>
     ensures value { Gives (λ key. key) result (bytes_field 1 64 text.now) }
     ensures size { IfOk result IsKey }
 {
-    let blob = blob(alloc, text, 1, Key::MOST)?;
+    let blob = blob(alloc, text, 1, MOST_KEY)?;
     match Key::of(alloc, blob.bytes()) {
         Ok(key) => Ok(key),
         Err(KeyFault::Size) => unreachable!(),

@@ -9,7 +9,10 @@ use crate::code::LineCode;
 use crate::event::Event;
 use crate::fields::{blob, field, fields, key, level, number, push_ok, small};
 use crate::line::{Kind, LineFault, ScriptLine, Word};
-use sp_base::{Asked, CallNo, ExtNo, Policy, TableId, TenantId, same_bytes};
+use sp_base::{
+    Asked, CallNo, ExtNo, MOST_ARGUMENTS, MOST_BUDGET, MOST_ENTRIES, MOST_QUANTUM, MOST_TEXT,
+    MOST_VALUE, MOST_WORKERS, Policy, TableId, TenantId, same_bytes,
+};
 use std::alloc::Global;
 
 /// The word that a field spells.
@@ -120,7 +123,7 @@ fn policy_line(fields: &[&[u8]]) -> Result<ScriptLine, LineFault>
 {
     counted(fields, 3)?;
     let high = small(field(fields, 1), 0, u32::MAX)?;
-    let least = small(field(fields, 2), 0, 100_000)?;
+    let least = small(field(fields, 2), 0, MOST_BUDGET)?;
     Ok(ScriptLine::Policy(Policy { high, least }))
 }
 
@@ -131,7 +134,7 @@ fn limit_line(fields: &[&[u8]]) -> Result<ScriptLine, LineFault>
     ensures fits { IfOk result LineFits }
 {
     counted(fields, 2)?;
-    let limit = number(field(fields, 1), 1, 1_048_576)?;
+    let limit = number(field(fields, 1), 1, MOST_ENTRIES)?;
     Ok(ScriptLine::Limit(limit))
 }
 
@@ -142,7 +145,7 @@ fn workers_line(fields: &[&[u8]]) -> Result<ScriptLine, LineFault>
     ensures fits { IfOk result LineFits }
 {
     counted(fields, 2)?;
-    let workers = small(field(fields, 1), 1, 64)?;
+    let workers = small(field(fields, 1), 1, MOST_WORKERS as u32)?;
     Ok(ScriptLine::Workers(workers))
 }
 
@@ -156,7 +159,7 @@ fn put_line(alloc: Global, fields: &[&[u8]]) -> Result<ScriptLine, LineFault>
     let tenant = TenantId(small(field(fields, 1), 0, u32::MAX)?);
     let table = TableId(small(field(fields, 2), 0, u32::MAX)?);
     let key = key(alloc, field(fields, 3))?;
-    let value = blob(alloc, field(fields, 4), 0, 4096)?;
+    let value = blob(alloc, field(fields, 4), 0, MOST_VALUE)?;
     Ok(ScriptLine::Body(Event::Put {
         tenant,
         table,
@@ -173,7 +176,7 @@ fn ext_line(fields: &[&[u8]]) -> Result<ScriptLine, LineFault>
 {
     counted(fields, 3)?;
     let tenant = TenantId(small(field(fields, 1), 0, u32::MAX)?);
-    let lines = small(field(fields, 2), 1, 16_384)?;
+    let lines = small(field(fields, 2), 1, MOST_TEXT as u32)?;
     Ok(ScriptLine::Ext { tenant, lines })
 }
 
@@ -189,9 +192,9 @@ fn begin_line(alloc: Global, fields: &[&[u8]]) -> Result<ScriptLine, LineFault>
     let caller = small(field(fields, 3), 0, u32::MAX)?;
     let number = CallNo(number(field(fields, 4), 1, u64::MAX)?);
     let ext = ExtNo(small(field(fields, 5), 0, u32::MAX)?);
-    let budget = small(field(fields, 6), 1, 100_000)?;
+    let budget = small(field(fields, 6), 1, MOST_BUDGET)?;
     let push_ok = push_ok(field(fields, 7))?;
-    let args = blob(alloc, field(fields, 8), 0, 1024)?;
+    let args = blob(alloc, field(fields, 8), 0, MOST_ARGUMENTS)?;
     Ok(ScriptLine::Body(Event::Begin {
         worker,
         tenant,
@@ -214,7 +217,7 @@ fn turn_line(fields: &[&[u8]]) -> Result<ScriptLine, LineFault>
 {
     counted(fields, 3)?;
     let worker = small(field(fields, 1), 0, u32::MAX)?;
-    let quantum = small(field(fields, 2), 1, 10_000)?;
+    let quantum = small(field(fields, 2), 1, MOST_QUANTUM)?;
     Ok(ScriptLine::Body(Event::Turn { worker, quantum }))
 }
 

@@ -13,13 +13,11 @@ use crate::fault::ScriptFault;
 use crate::line::{Kind, LineFault};
 use crate::script::Script;
 use crate::texts::{behind_lines, first_line};
+use sp_base::{MOST_LINES, MOST_SCRIPT};
 use std::alloc::Global;
 
-/// The most bytes of a script.
-pub const MOST_BYTES: usize = 4_194_304;
-
-/// The most lines of a script.
-pub const MOST_LINES: u32 = 65_536;
+/// The number of the line that is one too many.
+const LINE_TOO_MANY: u32 = MOST_LINES as u32 + 1;
 
 /// The script that a text spells, or its first bad line.
 pub fn read_script(alloc: Global, text: &[u8]) -> Result<Script, ScriptFault>
@@ -43,7 +41,7 @@ fn read(alloc: Global, kind: Kind, text: &[u8]) -> Result<Script, ScriptFault>
     ensures answer { Answers result (judged kind text.now) }
     ensures fits { IfOk result IsScript }
 {
-    if text.len() > MOST_BYTES {
+    if text.len() as u64 > MOST_SCRIPT {
         return Err(bad_line(0, LineCode::Long));
     }
     read_lines(alloc, kind, text)
@@ -65,7 +63,7 @@ fn read_lines(alloc: Global, kind: Kind, text: &[u8]) -> Result<Script, ScriptFa
     let mut rest = text;
     let mut number = 1;
     while let Some((line, behind)) = first_line(rest) {
-        if number > MOST_LINES {
+        if number >= LINE_TOO_MANY {
             return Err(bad_line(number, LineCode::Many));
         }
         let taken = match draft.read_line(alloc, kind, number, line, behind) {
@@ -74,8 +72,8 @@ fn read_lines(alloc: Global, kind: Kind, text: &[u8]) -> Result<Script, ScriptFa
             Err(LineFault::Memory) => return Err(ScriptFault::Memory),
         };
         number += 1 + taken;
-        if number > MOST_LINES + 1 {
-            return Err(bad_line(MOST_LINES + 1, LineCode::Many));
+        if number > LINE_TOO_MANY {
+            return Err(bad_line(LINE_TOO_MANY, LineCode::Many));
         }
         rest = behind_lines(behind, taken);
     }

@@ -15,12 +15,12 @@ loop-line-init c = record {
   fits = rw c.new-draft.ensures none_fit;
 }
 
-pub returns-then-number-clause-answer : goal.returns-then-number-clause-answer
-returns-then-number-clause-answer c =
+pub returns-then-number-gt-LINE_TOO_MANY-clause-answer : goal.returns-then-number-gt-LINE_TOO_MANY-clause-answer
+returns-then-number-gt-LINE_TOO_MANY-clause-answer c =
     let begins : BeginsWith c.loop-line.rest.now c.in-Some.line.now c.in-Some.behind.now = c.in-Some.ensures.line in
     let after : after_line c.args.kind c.loop-line.number c.in-Some.line.now (lines_of c.in-Some.behind.now) c.loop-line.draft ≡ Ok (c.read_line.new.self, c.in-Ok.taken) = c.in-Ok.ensures.answer in
     let far = line_far c.args.kind c.loop-line.number c.loop-line.draft c.loop-line.rest.now c.in-Some.line.now c.in-Some.behind.now begins c.read_line.new.self c.in-Ok.taken (omega arith) after c.in-Ok.ensures.there (omega arith) in
-    rw c.bad_line-then-number.ensures (sym c.loop-line.invariant.same ∙ far)
+    rw c.bad_line-then-number-gt-LINE_TOO_MANY.ensures (sym c.loop-line.invariant.same ∙ far)
 
 pub loop-line-preserved : goal.loop-line-preserved
 loop-line-preserved c =
