@@ -8,6 +8,7 @@ use sp_outside::{
 use std::alloc::Global;
 use std::test::Fail;
 use std::thread;
+use std::thread::Threads;
 
 /// A door that is bound, of which at least one link is out.
 #[derive(Drop)]
@@ -30,6 +31,17 @@ fn serves_one(open: Open) -> Open {
     Open { door }
 }
 
+/// Shuts a link.
+fn shuts<L: Link>(mut link: L) -> L {
+    link.shut();
+    link
+}
+
+/// Shuts a link of any door in a thread of its own, from which it comes back.
+fn shuts_elsewhere<R: Threads, D: Door>(rt: &R, link: D::Link) -> D::Link {
+    thread::join(rt, move || shuts(link), || ()).0
+}
+
 /// What was said on the links that are done, in order.
 fn said(alloc: Global, door: &MemDoor) -> Result<Vec<u8>, Fail> {
     let mut said = Vec::new(alloc);
@@ -50,6 +62,7 @@ fn links_are_done_in_order_whoever_accepted_them(rt: HostRuntime) -> Result<(), 
         return Err(Fail::from("no link"));
     };
     first.put(b"a");
+    let first = shuts_elsewhere::<_, MemDoor>(&rt, first);
     let open = Open { door };
     let member = thread::spawn(&rt, move || serves_one(open))?;
     let Open { mut door } = member.join(&rt);

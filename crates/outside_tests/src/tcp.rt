@@ -20,6 +20,14 @@ fn port_of<R>(door: &TcpDoor<R>) -> io::Result<u16> {
     }
 }
 
+/// Whether a bound door is reached from this machine alone.
+fn is_local<R>(door: &TcpDoor<R>) -> io::Result<bool> {
+    match &door.listener {
+        Some(listener) => Ok(listener.local_addr()?.ip().is_loopback()),
+        None => Ok(false),
+    }
+}
+
 /// A door that some port of this machine leads to, for so many sessions.
 fn bound_door(rt: &HostRuntime, sessions: u32) -> Result<TcpDoor<HostRuntime>, Fail>
     requires { 0 < sessions }
@@ -96,6 +104,7 @@ fn serves_one(mut door: TcpDoor<HostRuntime>) -> bool {
 fn a_tcp_door_serves_a_thread_and_counts_a_taken_port(rt: HostRuntime) -> Result<(), Fail> {
     let door = bound_door(&rt, 1)?;
     let port = port_of(&door)?;
+    assert!(rt; is_local(&door)?);
     let mut second = TcpDoor::new(rt);
     assert_eq!(rt; second.bind(port, 1), Bound::Failed);
     assert_eq!(rt; second.faults, 1);

@@ -68,10 +68,6 @@ impl Sink for MemSink {
         if count_call(self.fail.as_slice(), &mut self.calls, &mut self.faults) {
             return Wrote::Failed;
         }
-        if self.held.len() as u64 >= self.room {
-            self.faults = self.faults.saturating_add(1);
-            return Wrote::Failed;
-        }
-        Wrote::Bytes(keep_what_fits(&mut self.held, self.room as usize, piece))
+        keep_what_fits(&mut self.held, self.room, &mut self.faults, piece)
     }
 }

@@ -1,10 +1,12 @@
 //! What the forms in memory share.
-ghost use Rattle.std.specs.Prelude.{◌≡◌, ◌≢◌, ◌↔◌, ◌<◌, ◌≤◌, ◌-◌, ◌++◌, length, take, drop, min};
+ghost use Rattle.std.specs.Prelude.{◌≡◌, ◌≢◌, ◌↔◌, ◌<◌, ◌≤◌, ◌-◌, length, take, drop};
 ghost use Rattle.std.specs.Prelude.{vec_len, vec_capacity, IsTrue, Contains, Some, if◌then◌else◌};
 ghost use Rattle.sp_outside.specs.Faults.{one_call_more, one_fault_more};
 ghost use Rattle.sp_outside.specs.Hearing.{Hears};
+ghost use Rattle.sp_outside.specs.Putting.{TakesWithin, Puts, TakesAllThatFits, faults_after_put};
 ghost use Rattle.sp_outside.specs.Taking.{ComesWithin, Takes, GivesAllThatFits};
 
+use crate::sink::Wrote;
 use crate::source::Took;
 
 /// Counts a call, and a fault where the list names the call's number. Returns whether it does.
@@ -43,16 +45,24 @@ pub(crate) fn give_what_fits(bytes: &[u8], at: &mut usize, into: &mut [u8]) -> T
     Took::Bytes(n)
 }
 
-/// Keeps what fits of a piece into the room that is there in all. Returns how many bytes that is.
-pub(crate) fn keep_what_fits(held: &mut Vec<u8>, room: usize, piece: &[u8]) -> usize
-    requires free { vec_len held.old < room }
+/// Keeps what fits of a piece into the room that is there in all. Without room it counts a fault.
+pub(crate) fn keep_what_fits(held: &mut Vec<u8>, room: u64, faults: &mut u64, piece: &[u8]) -> Wrote
+    requires some { 0 < length piece.now }
     requires has_room { room ≤ vec_capacity held.old }
-    ensures all_that_fit { result ≡ min (length piece.now) (room - vec_len held.old) }
-    ensures held { held.new.items ≡ held.old.items ++ take result piece.now }
+    ensures within { TakesWithin result (length piece.now) }
+    ensures told { Puts result held.old.items piece.now (Some held.new.items) }
+    ensures fails { (result ≡ Wrote.Failed) ↔ (room ≤ vec_len held.old) }
+    ensures all_that_fit { TakesAllThatFits result (length piece.now) (room - vec_len held.old) }
+    ensures faults { faults.new ≡ faults_after_put result faults.old }
+    ensures never_falls { faults.old ≤ faults.new }
     ensures has_room { room ≤ vec_capacity held.new }
 {
-    let n = piece.len().min(room - held.len());
+    if held.len() as u64 >= room {
+        *faults = faults.saturating_add(1);
+        return Wrote::Failed;
+    }
+    let n = piece.len().min(room as usize - held.len());
     // The memory is there, so this cannot fail.
     let _ = held.extend_from_slice(&piece[..n]);
-    n
+    Wrote::Bytes(n)
 }
