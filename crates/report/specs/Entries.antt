@@ -15,7 +15,7 @@ use Rattle.book.specs.declared.entry.Entry.TheVariants as entry
 use Rattle.book.specs.declared.entry.Home.{Home}
 use Rattle.book.specs.declared.entry.Home.TheVariants as home
 use Rattle.book.specs.Folds.{texts_of}
-use Rattle.report.specs.Fields.{byte_field}
+use Rattle.sp_base.specs.Fields.{byte_field}
 use Rattle.report.specs.Lines.{line_of, outcome_fields}
 
 -- `TABLE KEY VERSION`

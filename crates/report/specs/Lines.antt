@@ -17,7 +17,7 @@ use Rattle.report.specs.declared.line.Prefix.{Prefix}
 use Rattle.report.specs.declared.line.Prefix.TheVariants as prefix
 use Rattle.report.specs.declared.line.Said.{Said}
 use Rattle.report.specs.declared.line.Said.TheVariants as said
-use Rattle.report.specs.Fields.{byte_field}
+use Rattle.sp_base.specs.Fields.{byte_field}
 
 -- further fields of a line: one space before each
 abbrev pub spaced : List (List ℕ) → List ℕ

@@ -1,6 +1,6 @@
 ghost use Rattle.std.specs.Prelude.{◌≡◌, [], ◌∷◌, ◌++◌, ◌<◌, OnOk};
 ghost use Rattle.std.specs.Fmt.{decimal};
-ghost use Rattle.report.specs.Fields.{hex_digit, hex_pair, byte_field};
+ghost use Rattle.sp_base.specs.Fields.{hex_digit, hex_pair, byte_field};
 
 use sp_base::{Blob, Memory};
 use std::alloc::Global;

@@ -1,7 +1,7 @@
 -- The digits of the bytes so far stand behind the mark of a byte field.
 use Rattle.std.proofs.Common.{◌≡◌, ◌++◌, take}
 use Rattle.std.specs.List.{flat_map}
-use Rattle.report.specs.Fields.{hex_pair}
+use Rattle.sp_base.specs.Fields.{hex_pair}
 use Rattle.report.proofs.text.Text.field.Given as goal
 
 abbrev pub invariant-loop-byte : goal.invariant-loop-byte
