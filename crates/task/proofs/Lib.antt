@@ -1,0 +1,5 @@
+pub mod Knowing
+pub mod Runs
+pub mod Turns
+pub mod Counting
+pub mod Parts

@@ -1,0 +1,4 @@
+pub mod Extensions
+pub mod Turning
+pub mod Tasks
+pub mod Laws
