@@ -1,12 +1,13 @@
 -- A read of a new place joins a read list.
 use Rattle.std.specs.List.{AllByRecursion, IsDistinct}
-use Rattle.std.proofs.Common.{◌≡◌, ◌<◌, ℕ, Bool, true, false, List, [], ◌∷◌, ◌++◌, length, map, Option, Some, None, refl, arith, length-append, if◌then◌else◌}
+use Rattle.std.proofs.Common.{◌≡◌, ◌<◌, Bool, true, false, List, [], ◌∷◌, ◌++◌, length, map, Option, Some, None, refl, arith, length-append, if◌then◌else◌}
 use Rattle.std.proofs.lemmas.Map.Keys.{IsDistinct-cons, IsDistinct-head, IsDistinct-tail}
 use Rattle.sp_base.specs.declared.reads.ReadItem.{ReadItem}
 use Rattle.sp_base.specs.Places.{Place, same_place}
+use Rattle.sp_base.specs.Spelling.{FitsOpt}
 use Rattle.ext_mean.specs.Views.{place_of}
 use Rattle.ext_mean.proofs.Places.{none-distinct}
-use Rattle.rw_set.specs.ReadLists.{IsReadList, ValueFits, most_reads, read_of}
+use Rattle.rw_set.specs.ReadLists.{IsReadList, most_reads, read_of}
 
 -- what holds of the elements and of one more holds of all of them
 pub AllByRecursion-snoc : {X : Type 0} (P : X → Type 0) (xs : List X) (x : X) → AllByRecursion P xs → P x → AllByRecursion P (xs ++ x ∷ [])
@@ -14,11 +15,11 @@ AllByRecursion-snoc P [] x all one = (one, tt)
 AllByRecursion-snoc P (y ∷ ys) x all one = (all.0, AllByRecursion-snoc P ys x all.1 one)
 
 -- where nothing is found, the first read is of another place, and nothing is found behind it
-none-first : (same : Bool) (read : ReadItem) (rest : Option ReadItem) → (if same then Some read else rest) ≡ None → same ≡ false
+pub none-first : (same : Bool) (read : ReadItem) (rest : Option ReadItem) → (if same then Some read else rest) ≡ None → same ≡ false
 none-first true read rest none = absurd (let e : Some read ≡ None = none in cc)
 none-first false read rest none = refl
 
-none-rest : (same : Bool) (read : ReadItem) (rest : Option ReadItem) → (if same then Some read else rest) ≡ None → rest ≡ None
+pub none-rest : (same : Bool) (read : ReadItem) (rest : Option ReadItem) → (if same then Some read else rest) ≡ None → rest ≡ None
 none-rest true read rest none = absurd (let e : Some read ≡ None = none in cc)
 none-rest false read rest none = none
 
@@ -42,9 +43,9 @@ pub no-reads : IsReadList []
 no-reads = record { distinct = none-distinct; few = omega arith; values = tt }
 
 pub read-list-grows : (reads : List ReadItem) (item : ReadItem) → IsReadList reads → read_of reads (place_of item) ≡ None
-    → length reads < most_reads → ValueFits item.value → IsReadList (reads ++ item ∷ [])
+    → length reads < most_reads → FitsOpt item.value → IsReadList (reads ++ item ∷ [])
 read-list-grows reads item kept new room value = record {
   distinct = distinct-with reads item kept.distinct new;
   few = omega (arith, length-append reads (item ∷ []));
-  values = AllByRecursion-snoc (λ read. ValueFits read.value) reads item kept.values value;
+  values = AllByRecursion-snoc (λ read. FitsOpt read.value) reads item kept.values value;
 }

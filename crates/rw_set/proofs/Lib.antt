@@ -1,1 +1,5 @@
 pub mod Growing
+pub mod Ranks
+pub mod Searching
+pub mod Weights
+pub mod Kept

@@ -1,1 +1,3 @@
 pub mod ReadLists
+pub mod Weight
+pub mod Order

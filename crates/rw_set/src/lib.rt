@@ -3,6 +3,8 @@
 
 mod finished;
 mod read_set;
+mod search;
+mod weight;
 
 pub use finished::Finished;
 pub use read_set::ReadSet;

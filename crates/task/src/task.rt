@@ -1,7 +1,7 @@
 ghost use Rattle.std.specs.Prelude.{◌≡◌, ◌≢◌, ◌≤◌, ◌<◌, [], IfOk, IfErr, OnOk, OnErr};
 ghost use Rattle.std.specs.Arc.{arc_value};
 ghost use Rattle.ext_mean.specs.Outcomes.{EndsWith};
-ghost use Rattle.rw_set.specs.ReadLists.{ValueFits};
+ghost use Rattle.sp_base.specs.Spelling.{FitsOpt};
 ghost use Rattle.task.specs.Laws.{MayBegin};
 ghost use Rattle.task.specs.Tasks.{HasEnded, IsTask, told_of};
 ghost use Rattle.task.specs.Turning.{begun, ending, given, meaning_with, spending, turn_of, units_of_turn, waiting};
@@ -165,7 +165,7 @@ impl Task {
     /// The record that the task waits for. Without memory it comes back, and the task waits still.
     pub fn give(&mut self, item: ReadItem) -> Result<(), (Memory, ReadItem)>
         requires wanted { self.old.phase ≡ Phase.Waiting item.table item.key }
-        requires value { ValueFits item.value }
+        requires value { FitsOpt item.value }
         ensures ok { OnOk result (self.new ≡ given self.old item) }
         ensures err { OnErr result (self.new ≡ self.old) }
         ensures back { IfErr result (λ refused. refused.1 ≡ item) }
