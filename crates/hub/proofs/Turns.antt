@@ -102,8 +102,8 @@ module _ {B E F : Type 0} (stands : B → List E → Type 0) (fixed : B → F) (
       below : (s : Table) (r : Rules s) (j : ℕ) (u : Sight B E) → get_elem? s.views j ≡ some u → (t : ℕ) → r.tickets ≡ t → HasTicket t u.role → ⊥
       below s r j u there t is has = below_line r.history r.tickets r.serving u.seen u.role (r.each j u there).in_line (subst (λ (z : ℕ). HasTicket z u.role) (sym is) has)
 
-  pub calls : (slots id : ℕ) (me : Seated B E) (t : ℕ) → me.0.role ≡ Waits t → Allows Rules slots id me 1 (λ n. n) (called stands fixed (step slots 1 0 0 none) me)
-  calls slots id me t waits = allowed stands fixed origin slots id me 1 (λ n. n) (called stands fixed (step slots 1 0 0 none) me) (λ s r at _.
+  pub calls : (slots id : ℕ) (me : Seated B E) (t : ℕ) → me.0.role ≡ Waits t → Allows Rules slots id me 1 (λ n. n) (called fixed (step slots 1 0 0 none) me)
+  calls slots id me t waits = allowed stands fixed origin slots id me 1 (λ n. n) (called fixed (step slots 1 0 0 none) me) (λ s r at _.
       let v : Sight B E = me.0 in let k = r.each id v at in let line = line_is stands fixed origin s r id v at (Waits t) waits in
       dite (ℕ_discrete r.serving t)
       (λ (hit : r.serving ≡ t).
@@ -144,8 +144,8 @@ module _ {B E F : Type 0} (stands : B → List E → Type 0) (fixed : B → F) (
           let is : u ≡ v = some-injective _ _ (sym h.1.2 ∙ (ap (λ (z : ℕ). get_elem? s.views z) same ∙ at)) in
           absurd (subst HasTurn (ap (λ (z : Sight B E). z.role) is ∙ waits) h.1.3)) r.slot
 
-  pub looks : (slots id : ℕ) (me : Seated B E) → Allows Rules slots id me 2 (λ n. n) (looked stands fixed (step slots 2 0 0 none) me)
-  looks slots id me = allowed stands fixed origin slots id me 2 (λ n. n) (looked stands fixed (step slots 2 0 0 none) me) (λ s r at _.
+  pub looks : (slots id : ℕ) (me : Seated B E) → Allows Rules slots id me 2 (λ n. n) (looked stands (step slots 2 0 0 none) me)
+  looks slots id me = allowed stands fixed origin slots id me 2 (λ n. n) (looked stands (step slots 2 0 0 none) me) (λ s r at _.
       let v : Sight B E = me.0 in let k = r.each id v at in let w : Sight B E = record v { seen = r.history; role = after_look v.role } in (
         w,
         keeps,

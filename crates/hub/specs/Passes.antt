@@ -24,6 +24,14 @@ pub record PassView (B E : Type 0) : Type 0 where
   pub shown : Option ℕ
   pub met : ℕ
 
+-- a table with the words and the slot of a hub
+abbrev pub IsHubTable : TableId → Type 0
+IsHubTable table = (table.words ≡ 4) × (table.slots ≡ 1)
+
+-- a seat at such a table
+abbrev pub IsAtHub : TableId → TableId → Type 0
+IsAtHub seat table = (seat ≡ table) × IsHubTable table
+
 -- the value that the hub was founded with
 abbrev pub founder : {B : Type 0} → HubView B → B
 founder hub = hub.origin.value.value

@@ -73,7 +73,11 @@ module _ {B E : Type 0} where
   abbrev pub spent : Sight B E
   spent = record { origin = None; seen = []; told = []; role = Idle; own = []; inside = false; shown = None; met = 0 }
 
-module _ {B E F : Type 0} (stands : B → List E → Type 0) (fixed : B → F) where
+module _ {B E F : Type 0} (fixed : B → F) where
+  -- the value has the fixed part of the founder that the view knows
+  abbrev pub HasFixedPart : B → Sight B E → Type 0
+  HasFixedPart value v = (origin : Origin B) → v.origin ≡ Some origin → fixed value ≡ fixed origin.value.value
+
   -- look at serving: with the ticket that is served comes the slot, and a value with the founder's fixed part
   abbrev pub called : Step (Option B) → Seated B E → ℕ → Seated B E → Type 0
   called st me n me' =
@@ -84,6 +88,7 @@ module _ {B E F : Type 0} (stands : B → List E → Type 0) (fixed : B → F) w
       × ((origin : Origin B) → me.0.origin ≡ Some origin → fixed value ≡ fixed origin.value.value))
       × (n ≢ t → me' ≡ me)
 
+module _ {B E : Type 0} (stands : B → List E → Type 0) where
   -- look at the length: the whole history was seen. The value that was taken stands for it; who had looked had seen it all
   abbrev pub looked : Step (Option B) → Seated B E → ℕ → Seated B E → Type 0
   looked st me n me' =

@@ -23,14 +23,13 @@ pub struct Hub<B: Keeps> {
 }
 
 impl<B: Keeps> Model for Hub<B> {
-    ghost use Rattle.std.specs.Prelude.{◌≡◌};
-    ghost use Rattle.hub.specs.Passes.{HubView};
+    ghost use Rattle.hub.specs.Passes.{HubView, IsHubTable};
 
     ghost Value = { HubView B };
 
     ghost view = { λ h. record { id = h.table.shared.table_id; origin = h.table.shared.key } };
 
-    ghost invariant = { λ h. (h.table.shared.table_id.words ≡ 4) × (h.table.shared.table_id.slots ≡ 1) };
+    ghost invariant = { λ h. IsHubTable h.table.shared.table_id };
 }
 
 /// The load word, or 4,294,967,295 where it is greater.

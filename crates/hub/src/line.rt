@@ -1,7 +1,7 @@
 //! The steps of a seat in the line for the turn.
 ghost use Rattle.std.specs.Prelude.{◌≡◌, ◌+◌, ◌^◌, ◌<◌, List, [], ◌∷◌, ◌++◌, length, None, Some};
-ghost use Rattle.hub.specs.Passes.{HasOut, HasPut, MayGive};
-ghost use Rattle.hub.specs.Steps.{with_role};
+ghost use Rattle.hub.specs.Passes.{HasOut, HasPut, IsAtHub, MayGive};
+ghost use Rattle.hub.specs.Steps.{HasFixedPart, with_role};
 ghost use Rattle.hub.specs.declared.sight.Role.TheVariants.{Idle, Waits, Took, Looked};
 
 use crate::rule::{Append, Call, Draw, Line, Look, Place};
@@ -26,7 +26,7 @@ pub(crate) const HOME: usize = 0;
 
 /// Draws a ticket. At 2^64 - 1 tickets it waits for good.
 pub(crate) fn draw<B: Keeps, R: Wait>(rt: &R, line: &Line<B>, seat: &mut Place<B>) -> u64
-    requires table { (seat.old.table_id ≡ line.now.table_id) × (line.now.table_id.words ≡ 4) × (line.now.table_id.slots ≡ 1) }
+    requires table { IsAtHub seat.old.table_id line.now.table_id }
     requires idle { seat.old.me.0.role ≡ Idle }
     ensures seat { (seat.new.table_id ≡ seat.old.table_id) × (seat.new.id ≡ seat.old.id) }
     ensures view { seat.new.me ≡ (with_role (Waits result) seat.old.me.0, seat.old.me.1) }
@@ -49,11 +49,11 @@ pub(crate) fn await_turn<B: Keeps, R: Wait>(
     seat: &mut Place<B>,
     ticket: u64,
 ) -> B
-    requires table { (seat.old.table_id ≡ line.now.table_id) × (line.now.table_id.words ≡ 4) × (line.now.table_id.slots ≡ 1) }
+    requires table { IsAtHub seat.old.table_id line.now.table_id }
     requires waits { (seat.old.me.0.role ≡ Waits ticket) × (seat.old.me.1 ≡ []) }
     ensures seat { (seat.new.table_id ≡ seat.old.table_id) × (seat.new.id ≡ seat.old.id) }
     ensures view { seat.new.me ≡ (with_role (Took ticket result) seat.old.me.0, (0, None) ∷ []) }
-    ensures part { (origin : _) → seat.old.me.0.origin ≡ Some origin → B.fixed result ≡ B.fixed origin.value.value }
+    ensures part { HasFixedPart B.fixed result seat.old.me.0 }
 {
     let backoff = Backoff::new();
     for _ in rt.forever() {
@@ -70,7 +70,7 @@ pub(crate) fn await_turn<B: Keeps, R: Wait>(
 
 /// Puts the value into the slot, and counts the entry that it has more, where it has one.
 pub(crate) fn put_back<B: Keeps>(line: &Line<B>, seat: &mut Place<B>, value: B)
-    requires table { (seat.old.table_id ≡ line.now.table_id) × (line.now.table_id.words ≡ 4) × (line.now.table_id.slots ≡ 1) }
+    requires table { IsAtHub seat.old.table_id line.now.table_id }
     requires out { HasOut seat.old.me }
     requires value { MayGive B.stands_for value seat.old.me.0.seen }
     ensures seat { (seat.new.table_id ≡ seat.old.table_id) × (seat.new.id ≡ seat.old.id) }

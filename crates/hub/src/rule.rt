@@ -33,7 +33,7 @@ pub(crate) struct Call;
 impl<B: Keeps> Play<Option<B>, Sight<B, B::Entry>> for Call {
     ghost use Rattle.hub.specs.Steps.{called};
 
-    ghost then = { called B.stands_for B.fixed };
+    ghost then = { called B.fixed };
 }
 
 /// A look at the length.
@@ -42,7 +42,7 @@ pub(crate) struct Look;
 impl<B: Keeps> Play<Option<B>, Sight<B, B::Entry>> for Look {
     ghost use Rattle.hub.specs.Steps.{looked};
 
-    ghost then = { looked B.stands_for B.fixed };
+    ghost then = { looked B.stands_for };
 }
 
 pub(crate) struct Append;
