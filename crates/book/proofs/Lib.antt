@@ -1,4 +1,5 @@
 pub mod Growing
-pub mod Versions
-pub mod Committing
+pub mod Unmoved
+pub mod Soundness
 pub mod Verdicts
+pub mod Standing

@@ -12,14 +12,15 @@ use Rattle.ext_mean.specs.Outcomes.{outcome_of}
 use Rattle.ext_mean.specs.Views.{place_of}
 use Rattle.book.specs.declared.answers.Commit.{Commit}
 use Rattle.book.specs.declared.answers.Commit.TheVariants.{Committed, Conflict, Full, Stale}
-use Rattle.book.specs.declared.entry.Entry.{Entry}
-use Rattle.book.specs.declared.entry.Entry.TheVariants.{Invoke, Put, Install}
-use Rattle.book.specs.Folds.{version_of}
-use Rattle.book.specs.GrantsList.{GrantsList}
+use Rattle.journal.specs.declared.entry.Entry.{Entry}
+use Rattle.journal.specs.declared.entry.Entry.TheVariants.{Invoke, Put, Install}
+use Rattle.records.specs.GrantsList.{GrantsList}
+use Rattle.journal.specs.Folds.{version_of}
+use Rattle.journal.specs.Legal.{LegalAt}
+use Rattle.journal.specs.Reads.{IsCurrent}
 use Rattle.book.specs.Laws.{ConflictsNameMovedReads, IsFirstMoved, KilledAt, LegalKilledAreSpent, NamesMovedRead}
-use Rattle.book.specs.Legal.{IsCurrent, LegalAt}
-use Rattle.book.specs.Verdict.{BookValue, is_full, moved, verdict_on}
-use Rattle.book.proofs.Committing.{same_number}
+use Rattle.book.specs.Verdict.{is_full, moved, verdict_on}
+use Rattle.book.proofs.Unmoved.{same_number}
 
 other_number : {a b : ℕ} → (a == b) ≡ false → a ≢ b
 other_number {a} {b} other = grind (arith, nat_tests)
@@ -71,16 +72,16 @@ no-conflict : {A : Type 0} (full : Bool) (n : ℕ) (outcome : Outcome) (table : 
 no-conflict true n outcome table key read read_at now now_at said = (cc)
 no-conflict false n outcome table key read read_at now now_at said = (cc)
 
-on-named : (book : BookValue) (entry : Entry) (outcome : Outcome) (reads : List ReadItem) (found : Option ReadItem)
-    (table : TableId) (key : List ℕ) (read read_at now now_at : ℕ) → moved book.journal reads ≡ found
-    → verdict_on book entry outcome found ≡ Conflict table key read read_at now now_at
-    → NamesMovedRead book.journal reads table key read now
-on-named book entry outcome reads None table key read read_at now now_at is said =
-    no-conflict (is_full book entry) (length book.journal) outcome table key read read_at now now_at said
-on-named book entry outcome reads (Some item) table key read read_at now now_at is said =
-    let named = first-moved book.journal reads item is in
+on-named : (limit : ℕ) (journal : List Entry) (entry : Entry) (outcome : Outcome) (reads : List ReadItem) (found : Option ReadItem)
+    (table : TableId) (key : List ℕ) (read read_at now now_at : ℕ) → moved journal reads ≡ found
+    → verdict_on limit journal entry outcome found ≡ Conflict table key read read_at now now_at
+    → NamesMovedRead journal reads table key read now
+on-named limit journal entry outcome reads None table key read read_at now now_at is said =
+    no-conflict (is_full limit journal entry) (length journal) outcome table key read read_at now now_at said
+on-named limit journal entry outcome reads (Some item) table key read read_at now now_at is said =
+    let named = first-moved journal reads item is in
     let version : read ≡ item.version = (cc) in
-    let stands : now ≡ version_of book.journal (place_of item) = (cc) in
+    let stands : now ≡ version_of journal (place_of item) = (cc) in
     record {
       at = named.0;
       item = item;
@@ -99,8 +100,8 @@ not-stale true last n fresh table key read read_at now now_at said = (cc)
 not-stale false last n fresh table key read read_at now now_at said = said
 
 pub conflicts-name-moved-reads : ConflictsNameMovedReads
-conflicts-name-moved-reads book call entry outcome reads table key read read_at now now_at said =
-    on-named book entry outcome reads (moved book.journal reads) table key read read_at now now_at refl
+conflicts-name-moved-reads limit journal call entry outcome reads table key read read_at now now_at said =
+    on-named limit journal entry outcome reads (moved journal reads) table key read read_at now now_at refl
     (not-stale _ _ _ _ table key read read_at now now_at said)
 
 -- a run whose outcome is Killed is spent
@@ -121,4 +122,4 @@ killed-at grants before (Put tenant table key value) legal = tt
 killed-at grants before (Install tenant text) legal = tt
 
 pub legal-killed-are-spent : LegalKilledAreSpent
-legal-killed-are-spent grants journal legal i entry found = killed-at grants _ entry (legal i entry found)
+legal-killed-are-spent grants journal legal i entry from found = killed-at grants _ entry (legal i entry from found)

@@ -1,7 +1,3 @@
-pub mod GrantsList
-pub mod Folds
-pub mod Sizes
-pub mod Legal
 pub mod Verdict
 pub mod Standing
 pub mod Laws

@@ -1,17 +1,77 @@
--- What every book keeps.
-use Rattle.std.specs.Prelude.{◌≤◌, length}
-use Rattle.book.specs.Sizes.{size_of, most_bytes, EntryFits}
-use Rattle.book.specs.Legal.{Each, Legal, InOrder, Within}
-use Rattle.book.specs.Verdict.{BookValue}
-use Rattle.book.specs.GrantsList.{AreGrants}
+-- What a book stands for.
+use Rattle.std.specs.Prelude.{◌≡◌, ◌≤◌, ℕ, Bool, true, false, List, length}
+use Rattle.std.specs.List.{AllByRecursion}
+use Rattle.sp_base.specs.declared.calls.Call.{Call}
+use Rattle.sp_base.specs.declared.limits.TheConstants.{MOST_ENTRIES, MOST_JOURNAL}
+use Rattle.sp_base.specs.declared.outcomes.Outcome.{Outcome}
+use Rattle.sp_base.specs.declared.reads.ReadItem.{ReadItem}
+use Rattle.sp_base.specs.declared.writes.Write.{Write}
+use Rattle.ext_mean.specs.declared.tree.Program.{Program}
+use Rattle.records.specs.GrantsList.{GrantsList, RightsList, AreGrants}
+use Rattle.journal.specs.declared.entry.Entry.{Entry}
+use Rattle.journal.specs.declared.entry.Entry.TheVariants.{Invoke, Put, Install}
+use Rattle.journal.specs.declared.entry.Home.TheVariants.{Server, Client}
+use Rattle.journal.specs.Granted.{granted}
+use Rattle.journal.specs.Legal.{EachFrom, InOrder, IsLegal, IsMeantOn, Names, Within}
+use Rattle.journal.specs.Reads.{IsCurrent, IsHeld}
+use Rattle.journal.specs.Sizes.{EntryFits, size_of}
 
--- the journal is one legal history within its limits
-pub record IsSound (book : BookValue) : Type 0 where
-  pub grants : AreGrants book.grants
-  pub limit : book.limit ≤ 1048576
-  pub few : length book.journal ≤ book.limit
-  pub small : size_of book.journal ≤ most_bytes
-  pub fits : Each (λ before entry. EntryFits entry) book.journal
-  pub legal : Legal book.grants book.journal
-  pub in_order : InOrder book.journal
-  pub within : Within book.grants book.journal
+-- what contracts see of a book: its grants, the most entries that it may have, whether it holds only
+-- honest calls of clients, and its journal
+pub record BookValue : Type 0 where
+  pub grants : GrantsList
+  pub limit : ℕ
+  pub audit : Bool
+  pub journal : List Entry
+
+-- under audit, a client's outcome and changes are what the program means on the records that it read
+abbrev pub IsAudited : Bool → GrantsList → List Entry → Call → Program → Outcome → List Write → List ReadItem → Type 0
+IsAudited true grants before call program outcome writes reads =
+    IsMeantOn grants before call program outcome writes reads
+IsAudited false grants before call program outcome writes reads = Unit {0}
+
+-- a call that ended at its client names an extension and has read the versions then standing
+pub record IsSent (grants : GrantsList) (audit : Bool) (before : List Entry) (call : Call) (outcome : Outcome) (writes : List Write) (reads : List ReadItem) : Type 0 where
+  pub program : Program
+  pub names : Names before call program
+  pub current : AllByRecursion (IsCurrent before) reads
+  pub honest : IsAudited audit grants before call program outcome writes reads
+
+-- a call that ended in the server is legal whole
+abbrev pub SoundAt : GrantsList → Bool → List Entry → Entry → Type 0
+SoundAt grants audit before (Invoke call outcome writes reads Server) =
+    IsLegal grants before call outcome writes reads Server
+SoundAt grants audit before (Invoke call outcome writes reads Client) =
+    IsSent grants audit before call outcome writes reads
+SoundAt grants audit before (Put tenant table key value) = Unit {0}
+SoundAt grants audit before (Install tenant text) = Unit {0}
+
+-- the journal is one history within its limits, sound entry by entry
+pub record IsSound (grants : GrantsList) (limit : ℕ) (audit : Bool) (journal : List Entry) : Type 0 where
+  pub granting : AreGrants grants
+  pub most : limit ≤ MOST_ENTRIES
+  pub few : length journal ≤ limit
+  pub small : size_of journal ≤ MOST_JOURNAL
+  pub fits : EachFrom (λ before entry. EntryFits entry) 0 journal
+  pub sound : EachFrom (SoundAt grants audit) 0 journal
+  pub in_order : InOrder journal
+  pub within : Within grants journal
+
+-- The book stands for this list of entries, from the first on. Layers above speak of a journal by
+-- this word alone.
+pub record StandsFor (book : BookValue) (journal : List Entry) : Type 0 where
+  pub is : book.journal ≡ journal
+  pub sound : IsSound book.grants book.limit book.audit journal
+
+-- A finished run belongs to this journal: each of its reads is what the journal held when it was made,
+-- its extension's number names the program that ran, and it ran with its tenant's rights.
+pub record RanOn (grants : GrantsList) (journal : List Entry) (call : Call) (program : Program) (rights : RightsList) (reads : List ReadItem) : Type 0 where
+  pub held : AllByRecursion (IsHeld journal) reads
+  pub named : Names journal call program
+  pub own : rights ≡ granted grants journal call.caller.tenant
+
+-- grants, limit and audit of a book never change
+pub record KeepsFixed (before after : BookValue) : Type 0 where
+  pub grants : after.grants ≡ before.grants
+  pub limit : after.limit ≡ before.limit
+  pub audit : after.audit ≡ before.audit

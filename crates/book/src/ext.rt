@@ -1,5 +1,5 @@
-ghost use Rattle.std.specs.Prelude.{◌≤◌, length};
 ghost use Rattle.std.specs.Arc.{arc_value};
+ghost use Rattle.sp_base.specs.Limits.{IsText};
 ghost use Rattle.ext_mean.specs.Text.{Spells};
 
 use ext_mean::Program;
@@ -13,6 +13,5 @@ pub struct Ext {
     pub text: Blob,
     pub program: Arc<Program>,
     ghost spelled: { ∥ Spells text (arc_value program) ∥₁ },
-    ghost some: { 1 ≤ length text },
-    ghost short: { length text ≤ 16384 },
+    ghost sized: { IsText text },
 }

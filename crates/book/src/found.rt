@@ -1,11 +1,12 @@
 //! What a journal leaves at a place, worked out from its first entry on.
 
 ghost use Rattle.std.specs.Prelude.{◌≡◌, ◌+◌, ◌<◌, ◌≤◌, ◌^◌, length};
-ghost use Rattle.book.specs.Folds.{after_changes, after_entry, record_of, changed_by, place_at};
+ghost use Rattle.records.specs.Records.{place_at};
+ghost use Rattle.journal.specs.Folds.{after_changes, after_entry, record_of, changed_by};
 ghost use Rattle.sp_base.specs.Places.{same_place};
 ghost use Rattle.book.specs.Scan.{record_found};
 
-use crate::entry::Entry;
+use journal::Entry;
 use sp_base::{Blob, Change, Key, TableId, Write};
 
 /// What stands at a place: version 0 and nothing where it is absent.

@@ -1,11 +1,12 @@
 //! What a journal says of callers, tenants and reads, worked out from its first entry on.
 
 ghost use Rattle.std.specs.Prelude.{◌≡◌, ◌≤◌, ◌<◌, Some, None, IfSome, IfNone, length, map, slice_get};
-ghost use Rattle.book.specs.Folds.{texts_of, last_of};
-ghost use Rattle.book.specs.Verdict.{moved, without_value};
+ghost use Rattle.journal.specs.Folds.{texts_of, last_of};
+ghost use Rattle.journal.specs.Reads.{bare};
+ghost use Rattle.book.specs.Verdict.{moved};
 
-use crate::entry::Entry;
 use crate::found::record_at;
+use journal::Entry;
 use sp_base::{Caller, ReadItem, Reads, TenantId};
 
 /// The number of a caller's last committed call, or 0.
@@ -66,9 +67,9 @@ pub fn nth_read(reads: Reads, index: usize) -> ReadItem
     items.swap_remove(index)
 }
 
-/// The reads as an entry keeps them: without their values.
-pub fn without_values(reads: Reads) -> Reads
-    ensures { result ≡ map without_value reads }
+/// The reads as an entry keeps them: their places and versions.
+pub fn bare_reads(reads: Reads) -> Reads
+    ensures { result ≡ map bare reads }
 {
     let mut items = reads.into_vec();
     for item in items.iter_mut() {
@@ -78,7 +79,8 @@ pub fn without_values(reads: Reads) -> Reads
 }
 
 fn forget(read: &mut ReadItem)
-    ensures { read.new ≡ without_value read.old }
+    ensures { read.new ≡ bare read.old }
 {
+    read.read_at = 0;
     read.value = None;
 }

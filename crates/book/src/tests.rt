@@ -1,6 +1,7 @@
 ghost use Rattle.std.specs.Prelude.{◌≤◌};
 
 use super::*;
+use records::Grants;
 use sp_base::{Blob, Key, Level, Rights, TableId, TenantId};
 use std::alloc::Global;
 use std::test::Fail;
@@ -16,7 +17,7 @@ fn book_of(alloc: Global, limit: u64) -> Result<Book, Fail>
 {
     let rights = vec![in alloc; (OPEN, Level::Write)]?;
     let grants = vec![in alloc; (TENANT, Rights::of(rights))]?;
-    Ok(Book::new(alloc, Grants::of(grants), limit))
+    Ok(Book::new(alloc, Grants::of(grants), limit, true))
 }
 
 fn put(alloc: Global, book: &mut Book, table: TableId) -> Result<Put, Fail> {

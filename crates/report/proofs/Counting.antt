@@ -2,9 +2,9 @@
 use Rattle.std.proofs.Common.{◌≡◌, ℕ, suc, ◌+◌, ◌≤◌, ◌==◌, true, false, cond, List, [], ◌∷◌, ◌++◌, length, length-append, append-nil, refl, ap, subst, sym, ◌∙◌, arith, inl, inr}
 use Rattle.std.proofs.lemmas.Bool.Decides.{eqb_tells}
 use Rattle.sp_base.specs.declared.numbers.TenantId.{TenantId}
-use Rattle.book.specs.declared.entry.Entry.{Entry}
-use Rattle.book.specs.declared.entry.Entry.TheVariants.{Invoke, Put, Install}
-use Rattle.book.specs.Folds.{texts_of}
+use Rattle.journal.specs.declared.entry.Entry.{Entry}
+use Rattle.journal.specs.declared.entry.Entry.TheVariants.{Invoke, Put, Install}
+use Rattle.journal.specs.Folds.{texts_of}
 use Rattle.report.specs.Numbering.{Counts, CountsTexts, ChangesOnly, count_of}
 
 -- no tenant has more texts than there are entries

@@ -10,11 +10,11 @@ use Rattle.sp_base.specs.declared.reads.ReadItem.{ReadItem}
 use Rattle.sp_base.specs.declared.writes.Change.{Change}
 use Rattle.sp_base.specs.declared.writes.Change.TheVariants as change
 use Rattle.sp_base.specs.declared.writes.Write.{Write}
-use Rattle.book.specs.declared.entry.Entry.{Entry}
-use Rattle.book.specs.declared.entry.Entry.TheVariants as entry
-use Rattle.book.specs.declared.entry.Home.{Home}
-use Rattle.book.specs.declared.entry.Home.TheVariants as home
-use Rattle.book.specs.Folds.{texts_of}
+use Rattle.journal.specs.declared.entry.Entry.{Entry}
+use Rattle.journal.specs.declared.entry.Entry.TheVariants as entry
+use Rattle.journal.specs.declared.entry.Home.{Home}
+use Rattle.journal.specs.declared.entry.Home.TheVariants as home
+use Rattle.journal.specs.Folds.{texts_of}
 use Rattle.sp_base.specs.Fields.{byte_field}
 use Rattle.report.specs.Lines.{line_of, outcome_fields}
 

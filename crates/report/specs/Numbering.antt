@@ -4,8 +4,8 @@ use Rattle.std.specs.HashMap.{get, HashMap}
 use Rattle.std.specs.declared.hash.BuildHasherDefault.{BuildHasherDefault}
 use Rattle.std.specs.declared.hash.FoldHasher.{FoldHasher}
 use Rattle.sp_base.specs.declared.numbers.TenantId.{TenantId}
-use Rattle.book.specs.declared.entry.Entry.{Entry}
-use Rattle.book.specs.Folds.{texts_of}
+use Rattle.journal.specs.declared.entry.Entry.{Entry}
+use Rattle.journal.specs.Folds.{texts_of}
 
 -- counts by the tenant's number
 abbrev pub Counts : Type 0

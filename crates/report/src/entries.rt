@@ -6,7 +6,7 @@ ghost use Rattle.report.specs.Entries.{access_fields, call_fields, entry_text, h
 
 use crate::answers::add_outcome;
 use crate::text::Text;
-use book::{Entry, Home};
+use journal::{Entry, Home};
 use sp_base::{
     Blob, Call, Change, ExtNo, Key, Memory, Outcome, ReadItem, TableId, TenantId, Write,
 };

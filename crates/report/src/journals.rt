@@ -6,7 +6,7 @@ ghost use Rattle.report.specs.Numbering.{ChangesOnly, CountsTexts, count_of};
 
 use crate::entries::add_entry;
 use crate::text::Text;
-use book::Entry;
+use journal::Entry;
 use sp_base::{Blob, ExtNo, Memory, TenantId};
 use std::alloc::Global;
 use std::collections::HashMap;

@@ -1,5 +1,5 @@
 use super::*;
-use book::{Entry, Home};
+use journal::{Entry, Home};
 use sp_base::{
     Blob, Call, CallNo, Caller, Change, ExtNo, Key, Outcome, ReadItem, Reads, Reply, TableId,
     TenantId, Write, Writes,

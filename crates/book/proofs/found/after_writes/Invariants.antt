@@ -1,6 +1,7 @@
 -- What the writes that are left make of the record is what all of them make of it.
 use Rattle.std.proofs.Common.{◌≡◌, drop}
-use Rattle.book.specs.Folds.{after_changes, place_at}
+use Rattle.records.specs.Records.{place_at}
+use Rattle.journal.specs.Folds.{after_changes}
 use Rattle.book.specs.Scan.{record_found}
 use Rattle.book.proofs.found.after_writes.Given as goal
 

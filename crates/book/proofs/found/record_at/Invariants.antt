@@ -1,6 +1,7 @@
 -- What the entries that are left make of the record is what the whole journal leaves.
 use Rattle.std.proofs.Common.{◌≡◌, drop}
-use Rattle.book.specs.Folds.{after_entries, record_of, place_at}
+use Rattle.records.specs.Records.{place_at}
+use Rattle.journal.specs.Folds.{after_entries, record_of}
 use Rattle.book.specs.Scan.{record_found}
 use Rattle.book.proofs.found.record_at.Given as goal
 

@@ -1,6 +1,6 @@
 -- The last number after what is left is the last number of all.
 use Rattle.std.proofs.Common.{◌≡◌, drop}
-use Rattle.book.specs.Folds.{last_after, last_of}
+use Rattle.journal.specs.Folds.{last_after, last_of}
 use Rattle.book.proofs.scan.last_number.Given as goal
 
 abbrev pub invariant-loop-entry : goal.invariant-loop-entry

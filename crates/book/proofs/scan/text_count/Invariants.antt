@@ -1,6 +1,6 @@
 -- The texts counted so far and those in what is left are all of them.
 use Rattle.std.proofs.Common.{◌≡◌, ◌≤◌, ◌+◌, length, drop}
-use Rattle.book.specs.Folds.{texts_of}
+use Rattle.journal.specs.Folds.{texts_of}
 use Rattle.book.proofs.scan.text_count.Given as goal
 
 abbrev pub invariant-loop-entry : goal.invariant-loop-entry

@@ -1,0 +1,5 @@
+pub mod Versions
+pub mod Moments
+pub mod TrueReads
+pub mod Committing
+pub mod Growing

@@ -1,0 +1,13 @@
+//! The journal: what was put, installed and committed, in one order, and what this says of every
+//! moment of the store.
+//!
+//! `specs/Legal.antt` says what a legal journal is, and `specs/Folds.antt` what a journal leaves.
+#![tactic(auto)]
+
+mod entry;
+mod laws;
+mod size;
+
+pub use entry::{Entry, Home};
+pub use laws::versions_keep_their_values;
+pub use size::entry_size;

@@ -1,0 +1,2 @@
+pub mod GrantsList
+pub mod Records
