@@ -16,6 +16,7 @@ pub enum Dialled<L> {
 
 /// How a client reaches a server of this machine.
 pub trait Dial {
+    /// The links that the dial gives.
     type Link: Link + Drop;
 
     /// How many calls have failed, up to the last value of a `u64`.

@@ -31,6 +31,7 @@ pub enum Accepted<L> {
 
 /// Where peers come in. A door moves between threads.
 pub trait Door: Send + Drop {
+    /// The links that the door gives, which move between threads too.
     type Link: Link + Send + Drop;
 
     /// How many calls have failed, up to the last value of a `u64`.

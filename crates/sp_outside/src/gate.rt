@@ -12,6 +12,7 @@ pub enum GatePlace {
 
 /// Sees each call pass, and may hold a thread up. Threads share it.
 pub trait Gate {
+    /// A call passes a place. Returns once its thread may go on.
     fn pass(&self, place: GatePlace, caller: Caller, number: CallNo);
 }
 

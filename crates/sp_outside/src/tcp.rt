@@ -23,6 +23,7 @@ fn local(port: u16) -> SocketAddr {
 /// A link over TCP.
 #[derive(Drop)]
 pub struct TcpLink {
+    /// The connection, whose small writes are not held back.
     pub stream: TcpStream,
     /// How many calls of the system were an error or took nothing, up to the last value.
     pub faults: u64,
@@ -92,6 +93,7 @@ impl Link for TcpLink {
 /// A door at a TCP port of this machine.
 #[derive(Drop)]
 pub struct TcpDoor<R> {
+    /// The runtime's value, by which sockets are opened.
     pub rt: R,
     /// The socket that peers reach, once the door is bound.
     pub listener: Option<TcpListener>,
@@ -183,6 +185,7 @@ fn accept_from(listener: &TcpListener) -> io::Result<TcpLink>
 /// A dial over TCP to this machine.
 #[derive(Drop)]
 pub struct TcpDial<R> {
+    /// The runtime's value, by which sockets are opened.
     pub rt: R,
     /// The link that was done last.
     pub ended: Option<TcpLink>,
