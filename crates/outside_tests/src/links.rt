@@ -1,5 +1,6 @@
 //! Links and doors that move between threads, and texts that go over links.
-ghost use Rattle.std.specs.Prelude.{◌≡◌, ◌<◌, ◌++◌, List, ℕ, Some, vec_len, IsTrue};
+ghost use Rattle.std.specs.Prelude.{◌≡◌, ◌<◌, ◌++◌, ℕ, List, length, Some, IfSome, IsTrue, vec_len};
+ghost use Rattle.sp_outside.specs.Doors.{HasNoMore};
 
 use crate::forms::door_with;
 use sp_outside::{
@@ -69,6 +70,35 @@ fn links_are_done_in_order_whoever_accepted_them(rt: HostRuntime) -> Result<(), 
     door.done(first);
     assert_eq!(rt; said(alloc, &door)?.as_slice(), b"\x01a".as_slice());
     assert!(rt; matches!(door.accept(), Accepted::Closed));
+    Ok(())
+}
+
+/// Accepts links and is done with each, until the door gives no more. Returns whether it closed.
+fn drains<D: Door>(door: &mut D) -> bool
+    requires bound { IsTrue (D.bound door.old) }
+    requires all_done { IfSome (D.ended door.old) (λ links. length links ≡ D.given door.old) }
+    ensures all_done { IfSome (D.ended door.new) (λ links. length links ≡ D.given door.new) }
+    ensures closed { IsTrue result →
+        HasNoMore (D.most door.new) (D.given door.new) (D.coming door.new) }
+{
+    'links: loop {
+        match door.accept() {
+            Accepted::Link(link) => door.done(link),
+            Accepted::Closed => return true,
+            Accepted::Failed => return false,
+        }
+    }
+}
+
+#[test]
+fn a_door_is_drained_to_its_last_link(rt: HostRuntime) -> Result<(), Fail> {
+    let alloc = rt.alloc();
+    let mut door = door_with(alloc, 3, Vec::new(alloc))?;
+    let Bound::Yes = door.bind(7001, 2) else {
+        return Err(Fail::from("no door"));
+    };
+    assert!(rt; drains(&mut door));
+    assert_eq!(rt; (door.ended.len(), door.coming.len()), (2, 1));
     Ok(())
 }
 

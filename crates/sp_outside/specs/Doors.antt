@@ -1,5 +1,5 @@
 -- What a call of a door or a dial gives and counts, by its answer.
-use Rattle.std.specs.Prelude.{◌≡◌, ◌⊎◌, ℕ, ◌+◌, ◌-◌, ◌≤◌, Bool, true, Option, Some, None, List, ◌∷◌}
+use Rattle.std.specs.Prelude.{◌≡◌, ◌⊎◌, ℕ, ◌+◌, ◌-◌, ◌≤◌, Bool, true, Option, Some, None, List, [], ◌∷◌, ◌++◌}
 use Rattle.sp_outside.specs.declared.door.Bound.{Bound}
 use Rattle.sp_outside.specs.declared.door.Bound.TheVariants as bind
 use Rattle.sp_outside.specs.declared.door.Accepted.{Accepted}
@@ -55,6 +55,11 @@ module _ {L : Type 0} where
   AcceptsNext (accept.Link link) before after = before ≡ link ∷ after
   AcceptsNext accept.Closed before after = after ≡ before
   AcceptsNext accept.Failed before after = after ≡ before
+
+  -- a link that is done is the last of those that are, where they are told
+  abbrev pub ended_after : Option (List L) → L → Option (List L)
+  ended_after None link = None
+  ended_after (Some links) link = Some (links ++ link ∷ [])
 
   -- a failing `accept` counts one fault, and no other answer counts any
   abbrev pub faults_after_accept : Accepted L → ℕ → ℕ

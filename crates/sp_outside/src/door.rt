@@ -1,6 +1,6 @@
-ghost use Rattle.std.specs.Prelude.{◌≡◌, ◌≢◌, ◌↔◌, ◌<◌, ◌≤◌, ◌++◌, ◌∷◌, [], ℕ, Bool, List};
-ghost use Rattle.std.specs.Prelude.{length, Option, Some, IfSome, IsTrue};
-ghost use Rattle.sp_outside.specs.Doors.{bound_after, most_after, given_after, coming_after};
+ghost use Rattle.std.specs.Prelude.{◌≡◌, ◌≢◌, ◌↔◌, ◌<◌, ◌≤◌, ℕ, Bool, List};
+ghost use Rattle.std.specs.Prelude.{length, Option, IfSome, IsTrue};
+ghost use Rattle.sp_outside.specs.Doors.{bound_after, most_after, given_after, coming_after, ended_after};
 ghost use Rattle.sp_outside.specs.Doors.{HasNoMore, IfAccepted};
 ghost use Rattle.sp_outside.specs.Faults.{FaultCounted};
 ghost use Rattle.sp_outside.specs.Hearing.{IsFresh};
@@ -84,8 +84,7 @@ pub trait Door: Send + Drop {
     fn done(&mut self, link: Self::Link)
         requires bound { IsTrue (bound self.old) }
         requires given { IfSome (ended self.old) (λ links. length links < given self.old) }
-        ensures ended { IfSome (ended self.old) (λ links.
-            ended self.new ≡ Some (links ++ link ∷ [])) }
+        ensures ended { ended self.new ≡ ended_after (ended self.old) link }
         ensures same_bound { bound self.new ≡ bound self.old }
         ensures same_most { most self.new ≡ most self.old }
         ensures same_coming { coming self.new ≡ coming self.old }
