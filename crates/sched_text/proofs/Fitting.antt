@@ -1,19 +1,17 @@
 -- What a line without a code adds keeps what is declared in its ranges.
-use Rattle.std.proofs.Common.{◌≡◌, ◌≢◌, ℕ, zero, suc, ◌+◌, ◌<◌, ◌≤◌, Bool, true, false, cond, leb, ltb, eqb, List, [], ◌∷◌, ◌++◌, length, take, Option, Some, None, refl, sym, ap, subst, ◌∙◌, inl, inr, arith}
+use Rattle.std.proofs.Common.{◌≡◌, ℕ, suc, ◌+◌, ◌≤◌, Bool, true, false, cond, leb, ltb, eqb, List, [], ◌∷◌, ◌++◌, length, None, refl, sym, ap, ◌∙◌, inl, inr, arith}
 use Rattle.std.specs.Prelude.{not, map}
 use Rattle.std.specs.List.{AllByRecursion}
-use Rattle.std.proofs.Math.Numerals.{add-one}
 use Rattle.std.proofs.lemmas.Bool.{cases_lt, lt-ltb, le-ltb, leb-false, leb-true, eqb-false}
 use Rattle.sp_base.specs.declared.numbers.TableId.{TableId}
 use Rattle.sp_base.specs.declared.numbers.TenantId.{TenantId}
 use Rattle.sp_base.specs.declared.rights.Level.{Level}
 use Rattle.sched_text.specs.declared.draft.Draft.{Draft}
 use Rattle.sched_text.specs.declared.event.Event.{Event}
-use Rattle.sched_text.specs.declared.event.Event.TheVariants as event
 use Rattle.sched_text.specs.declared.line.ScriptLine.{ScriptLine}
 use Rattle.sched_text.specs.declared.line.ScriptLine.TheVariants.{Tenant, Table, Policy, Limit, Workers, Ext, Body}
-use Rattle.sched_text.specs.Drafts.{has_workers, workers_of, is_late, code_of, with_line, no_lines, script_of}
-use Rattle.sched_text.specs.Fits.{IsWithin, EventFits, LineFits, IsEvent, DraftFits, IsScript}
+use Rattle.sched_text.specs.Drafts.{has_workers, workers_of, code_of, with_line, no_lines}
+use Rattle.sched_text.specs.Fits.{EventFits, LineFits, IsEvent, DraftFits}
 use Rattle.sched_text.specs.Tenants.{RightsList, GrantsList, Rise, inserted, has_tenant, granted, with_right}
 use Rattle.sched_text.proofs.Coding.{good_line, not_not}
 
@@ -93,7 +91,7 @@ granted_names (row ∷ rest) tenant table level =
 
 -- ---- events
 
-all_and : {A : Type 0} (P : A → Type 0) (xs : List A) (x : A) → AllByRecursion P xs → P x → AllByRecursion P (xs ++ x ∷ [])
+pub all_and : {A : Type 0} (P : A → Type 0) (xs : List A) (x : A) → AllByRecursion P xs → P x → AllByRecursion P (xs ++ x ∷ [])
 all_and P [] x all one = (one, tt)
 all_and P (y ∷ ys) x all one = (all.0, all_and P ys x all.1 one)
 

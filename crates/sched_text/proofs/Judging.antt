@@ -1,5 +1,5 @@
 -- Lines that are judged one after the other.
-use Rattle.std.proofs.Common.{◌≡◌, ℕ, zero, suc, ◌+◌, ◌<◌, ◌≤◌, Bool, true, false, cond, ltb, List, [], ◌∷◌, length, drop, Result, Ok, Err, refl, sym, ap, subst, ◌∙◌, inl, inr, arith}
+use Rattle.std.proofs.Common.{◌≡◌, ℕ, zero, suc, ◌+◌, ◌<◌, ◌≤◌, Bool, true, false, ltb, List, [], ◌∷◌, length, drop, Result, Ok, Err, refl, sym, ap, ◌∙◌, inl, inr, arith}
 use Rattle.std.specs.Prelude.{◌&&◌, Option, Some, None, IfSome, unwrap_or}
 use Rattle.std.proofs.Math.Nat.{add-zero}
 use Rattle.std.proofs.lemmas.Bool.{cases_lt, lt-ltb, le-ltb}
@@ -7,23 +7,11 @@ use Rattle.sp_base.specs.declared.calls.Policy.{Policy}
 use Rattle.sched_text.specs.declared.code.LineCode.{LineCode}
 use Rattle.sched_text.specs.declared.code.LineCode.TheVariants.{Many}
 use Rattle.sched_text.specs.declared.draft.Draft.{Draft}
-use Rattle.sched_text.specs.declared.line.Kind.{Kind}
-use Rattle.sched_text.specs.declared.script.Script.{Script}
 use Rattle.sched_text.specs.Drafts.{script_of}
 use Rattle.sched_text.specs.Fits.{IsWithin, DraftFits, IsScript}
 use Rattle.sched_text.specs.Firsts.{BeginsWith}
-use Rattle.sched_text.specs.Judged.{BadLine, after_line, told, unless_many, judged_from}
+use Rattle.sched_text.specs.Judged.{BadLine, LineJudge, told, unless_many, judged_from}
 use Rattle.sched_text.specs.Texts.{lines_of, is_ended, has_lines}
-
--- ---- line 65,537
-
-few : (number : ℕ) (others : Result Script BadLine) → number ≤ 65536 → unless_many number others ≡ others
-few number others h = let t : ltb 65536 number ≡ false = le-ltb 65536 number h in rw t refl
-
-many : (number : ℕ) (others : Result Script BadLine) → 65536 < number → unless_many number others ≡ Err (number, Many)
-many number others h = let t : ltb 65536 number ≡ true = lt-ltb 65536 number h in rw t refl
-
--- ---- the lines of a text are passed over
 
 and_right : (a b : Bool) → (a && b) ≡ true → b ≡ true
 and_right true b e = e
@@ -34,60 +22,71 @@ long zero lines e = omega arith
 long (suc count) [] e = absurd cc
 long (suc count) (line ∷ lines) e = let ih = long count lines (and_right (is_ended line) (has_lines count lines) e) in omega arith
 
-passed_over : (kind : Kind) (texts number : ℕ) (draft : Draft) (lines : List (List ℕ)) → texts ≤ length lines → number + texts ≤ 65537 → judged_from kind number texts draft lines ≡ judged_from kind (number + texts) 0 draft (drop texts lines)
-passed_over kind zero number draft lines h fits = rw add-zero refl
-passed_over kind (suc texts) number draft [] h fits = absurd (omega arith)
-passed_over kind (suc texts) number draft (line ∷ lines) h fits =
-    let sum : number + 1 + texts ≡ number + suc texts = omega arith in
-    few number (judged_from kind (number + 1) texts draft lines) (omega arith)
-    ∙ passed_over kind texts (number + 1) draft lines (omega arith) (omega arith)
-    ∙ ap (λ (n : ℕ). judged_from kind n 0 draft (drop texts lines)) sum
+module _ (D : Type 0) (judge : LineJudge D) where
+  -- ---- line 65,537
 
-too_far : (kind : Kind) (texts number : ℕ) (draft : Draft) (lines : List (List ℕ)) → texts ≤ length lines → number ≤ 65537 → 65537 < number + texts → judged_from kind number texts draft lines ≡ Err (65537, Many)
-too_far kind zero number draft lines h low far = absurd (omega arith)
-too_far kind (suc texts) number draft [] h low far = absurd (omega arith)
-too_far kind (suc texts) number draft (line ∷ lines) h low far =
-    elim (cases_lt 65536 number) [
-      | inl lt ↦ let same : number ≡ 65537 = omega (arith, lt) in many number (judged_from kind (number + 1) texts draft lines) lt ∙ ap (λ (n : ℕ). Err (n, Many)) same
-      | inr le ↦ few number (judged_from kind (number + 1) texts draft lines) le
-          ∙ too_far kind texts (number + 1) draft lines (omega arith) (omega (arith, le)) (omega arith)
-    ]
+  few : (number : ℕ) (others : Result D BadLine) → number ≤ 65536 → unless_many number others ≡ others
+  few number others h = let t : ltb 65536 number ≡ false = le-ltb 65536 number h in rw t refl
+
+  many : (number : ℕ) (others : Result D BadLine) → 65536 < number → unless_many number others ≡ Err (number, Many)
+  many number others h = let t : ltb 65536 number ≡ true = lt-ltb 65536 number h in rw t refl
+
+  -- ---- the lines of a text are passed over
+
+  passed_over : (texts number : ℕ) (draft : D) (lines : List (List ℕ)) → texts ≤ length lines → number + texts ≤ 65537 → judged_from judge number texts draft lines ≡ judged_from judge (number + texts) 0 draft (drop texts lines)
+  passed_over zero number draft lines h fits = rw add-zero refl
+  passed_over (suc texts) number draft [] h fits = absurd (omega arith)
+  passed_over (suc texts) number draft (line ∷ lines) h fits =
+      let sum : number + 1 + texts ≡ number + suc texts = omega arith in
+      few number (judged_from judge (number + 1) texts draft lines) (omega arith)
+      ∙ passed_over texts (number + 1) draft lines (omega arith) (omega arith)
+      ∙ ap (λ (n : ℕ). judged_from judge n 0 draft (drop texts lines)) sum
+
+  too_far : (texts number : ℕ) (draft : D) (lines : List (List ℕ)) → texts ≤ length lines → number ≤ 65537 → 65537 < number + texts → judged_from judge number texts draft lines ≡ Err (65537, Many)
+  too_far zero number draft lines h low far = absurd (omega arith)
+  too_far (suc texts) number draft [] h low far = absurd (omega arith)
+  too_far (suc texts) number draft (line ∷ lines) h low far =
+      elim (cases_lt 65536 number) [
+        | inl lt ↦ let same : number ≡ 65537 = omega (arith, lt) in many number (judged_from judge (number + 1) texts draft lines) lt ∙ ap (λ (n : ℕ). Err (n, Many)) same
+        | inr le ↦ few number (judged_from judge (number + 1) texts draft lines) le
+            ∙ too_far texts (number + 1) draft lines (omega arith) (omega (arith, le)) (omega arith)
+      ]
+
+  abbrev next_line : ℕ → List (List ℕ) → D × ℕ → Result D BadLine
+  next_line number behind after = judged_from judge (number + 1) after.1 after.0 behind
 
 -- ---- one line
 
-abbrev next_line : Kind → ℕ → List (List ℕ) → Draft × ℕ → Result Script BadLine
-next_line kind number behind after = judged_from kind (number + 1) after.1 after.0 behind
+module _ (D : Type 0) (judge : LineJudge D) (number : ℕ) (draft : D) (text line behind : List ℕ) (begins : BeginsWith text line behind) where
+  abbrev first_told : Result D BadLine
+  first_told = told number (judge number line (lines_of behind) draft) (next_line D judge number (lines_of behind))
 
-module _ (kind : Kind) (number : ℕ) (draft : Draft) (text line behind : List ℕ) (begins : BeginsWith text line behind) where
-  abbrev first_told : Result Script BadLine
-  first_told = told number (after_line kind number line (lines_of behind) draft) (next_line kind number (lines_of behind))
-
-  first_judged : judged_from kind number 0 draft (lines_of text) ≡ unless_many number first_told
+  first_judged : judged_from judge number 0 draft (lines_of text) ≡ unless_many number first_told
   first_judged = rw (begins.lines, begins.bared) refl
 
-  pub line_many : 65536 < number → judged_from kind number 0 draft (lines_of text) ≡ Err (number, Many)
-  line_many h = first_judged ∙ many number first_told h
+  pub line_many : 65536 < number → judged_from judge number 0 draft (lines_of text) ≡ Err (number, Many)
+  line_many h = first_judged ∙ many D judge number first_told h
 
-  first_few : number ≤ 65536 → judged_from kind number 0 draft (lines_of text) ≡ first_told
-  first_few h = first_judged ∙ few number first_told h
+  first_few : number ≤ 65536 → judged_from judge number 0 draft (lines_of text) ≡ first_told
+  first_few h = first_judged ∙ few D judge number first_told h
 
-  pub line_bad : (code : LineCode) → number ≤ 65536 → after_line kind number line (lines_of behind) draft ≡ Err code → judged_from kind number 0 draft (lines_of text) ≡ Err (number, code)
+  pub line_bad : (code : LineCode) → number ≤ 65536 → judge number line (lines_of behind) draft ≡ Err code → judged_from judge number 0 draft (lines_of text) ≡ Err (number, code)
   line_bad code h e = first_few h ∙ rw e refl
 
-  first_next : (after : Draft) (taken : ℕ) → number ≤ 65536 → after_line kind number line (lines_of behind) draft ≡ Ok (after, taken) → judged_from kind number 0 draft (lines_of text) ≡ judged_from kind (number + 1) taken after (lines_of behind)
+  first_next : (after : D) (taken : ℕ) → number ≤ 65536 → judge number line (lines_of behind) draft ≡ Ok (after, taken) → judged_from judge number 0 draft (lines_of text) ≡ judged_from judge (number + 1) taken after (lines_of behind)
   first_next after taken h e = first_few h ∙ rw e refl
 
-  pub line_far : (after : Draft) (taken : ℕ) → number ≤ 65536 → after_line kind number line (lines_of behind) draft ≡ Ok (after, taken) → has_lines taken (lines_of behind) ≡ true → 65537 < number + (1 + taken) → judged_from kind number 0 draft (lines_of text) ≡ Err (65537, Many)
+  pub line_far : (after : D) (taken : ℕ) → number ≤ 65536 → judge number line (lines_of behind) draft ≡ Ok (after, taken) → has_lines taken (lines_of behind) ≡ true → 65537 < number + (1 + taken) → judged_from judge number 0 draft (lines_of text) ≡ Err (65537, Many)
   line_far after taken h e there far =
-      first_next after taken h e ∙ too_far kind taken (number + 1) after (lines_of behind) (long taken (lines_of behind) there) (omega arith) (omega arith)
+      first_next after taken h e ∙ too_far D judge taken (number + 1) after (lines_of behind) (long taken (lines_of behind) there) (omega arith) (omega arith)
 
-  pub line_good : (after : Draft) (taken : ℕ) (rest : List ℕ) → number ≤ 65536 → after_line kind number line (lines_of behind) draft ≡ Ok (after, taken) → has_lines taken (lines_of behind) ≡ true → number + (1 + taken) ≤ 65537 → lines_of rest ≡ drop taken (lines_of behind) → judged_from kind number 0 draft (lines_of text) ≡ judged_from kind (number + (1 + taken)) 0 after (lines_of rest)
+  pub line_good : (after : D) (taken : ℕ) (rest : List ℕ) → number ≤ 65536 → judge number line (lines_of behind) draft ≡ Ok (after, taken) → has_lines taken (lines_of behind) ≡ true → number + (1 + taken) ≤ 65537 → lines_of rest ≡ drop taken (lines_of behind) → judged_from judge number 0 draft (lines_of text) ≡ judged_from judge (number + (1 + taken)) 0 after (lines_of rest)
   line_good after taken rest h e there low is =
       let sum : number + 1 + taken ≡ number + (1 + taken) = omega arith in
       first_next after taken h e
-      ∙ passed_over kind taken (number + 1) after (lines_of behind) (long taken (lines_of behind) there) (omega arith)
-      ∙ ap (λ (n : ℕ). judged_from kind n 0 after (drop taken (lines_of behind))) sum
-      ∙ ap (λ (l : List (List ℕ)). judged_from kind (number + (1 + taken)) 0 after l) (sym is)
+      ∙ passed_over D judge taken (number + 1) after (lines_of behind) (long taken (lines_of behind) there) (omega arith)
+      ∙ ap (λ (n : ℕ). judged_from judge n 0 after (drop taken (lines_of behind))) sum
+      ∙ ap (λ (l : List (List ℕ)). judged_from judge (number + (1 + taken)) 0 after l) (sym is)
 
 -- ---- the script
 

@@ -1,6 +1,7 @@
 pub mod Coding
 pub mod Fitting
 pub mod Judging
+pub mod Calling
 pub mod TextLines
 pub mod Tables
 pub mod Pairs

@@ -1,5 +1,5 @@
 -- Bytes that are read one after the other.
-use Rattle.std.proofs.Common.{◌≡◌, ℕ, List, [], ◌∷◌, ◌++◌, Option, Some, None, refl, sym, ap, ◌∙◌, append_assoc}
+use Rattle.std.proofs.Common.{◌≡◌, ℕ, List, [], ◌∷◌, ◌++◌, Option, Some, None, refl, ap, append_assoc}
 use Rattle.std.specs.Prelude.{option_map}
 use Rattle.sched_text.specs.Fields.{byte_of, pairs_of}
 

@@ -1,5 +1,5 @@
 -- What is wrong with a line after the lines before it, and what it adds to them.
-use Rattle.std.specs.Prelude.{ℕ, zero, suc, ◌≡◌, nat_le, Bool, true, false, not, ◌&&◌, ◌||◌, List, [], ◌∷◌, ◌++◌, length, take, Option, Some, None, unwrap_or, if◌then◌else◌}
+use Rattle.std.specs.Prelude.{ℕ, zero, nat_le, Bool, true, false, not, ◌&&◌, List, [], ◌∷◌, ◌++◌, length, take, Option, Some, None, unwrap_or, if◌then◌else◌}
 use Rattle.std.specs.List.{concat}
 use Rattle.std.specs.Option.{is_some}
 use Rattle.sp_base.specs.declared.numbers.TenantId.{TenantId}

@@ -1,10 +1,7 @@
 -- What a line says is in its ranges, and so is a whole script.
-use Rattle.std.specs.Prelude.{◌≡◌, ◌≢◌, ℕ, ◌^◌, ◌<◌, ◌≤◌, true, List, length, map, IfSome}
+use Rattle.std.specs.Prelude.{◌≡◌, ◌≢◌, ℕ, ◌≤◌, true, List, length, map, IfSome}
 use Rattle.std.specs.List.{AllByRecursion}
 use Rattle.sp_base.specs.declared.calls.Asked.{Asked}
-use Rattle.sp_base.specs.declared.numbers.TableId.{TableId}
-use Rattle.sp_base.specs.declared.numbers.TenantId.{TenantId}
-use Rattle.sp_base.specs.declared.rights.Level.{Level}
 use Rattle.sp_base.specs.declared.rights.Level.TheVariants.{Nothing}
 use Rattle.sp_base.specs.Limits.{IsKey, IsValue, IsArguments}
 use Rattle.sched_text.specs.declared.draft.Draft.{Draft}

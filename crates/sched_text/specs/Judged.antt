@@ -41,20 +41,33 @@ told number (Err code) next = Err (number, code)
 abbrev pub unless_many : {B : Type 0} → ℕ → Result B BadLine → Result B BadLine
 unless_many number others = if nat_lt 65536 number then Err (number, Many) else others
 
--- the lines from this number on, of which the first ones belong to a text
-abbrev pub judged_from : Kind → ℕ → ℕ → Draft → List (List ℕ) → Result Script BadLine
-judged_from kind number texts draft [] = Ok (script_of draft)
-judged_from kind number (suc texts) draft (line ∷ behind) =
-    unless_many number (judged_from kind (number + 1) texts draft behind)
-judged_from kind number zero draft (line ∷ behind) =
-    unless_many number (told number (after_line kind number (bare line) behind draft)
-    (λ after. judged_from kind (number + 1) after.1 after.0 behind))
+-- how a line is judged: by its number, the line, the lines behind it and the draft before it
+abbrev pub LineJudge : Type 0 → Type 0
+LineJudge D = ℕ → List ℕ → List (List ℕ) → D → Result (D × ℕ) LineCode
 
--- a whole text; one of more than 4,194,304 bytes is Long at line 0
-unfoldable pub judged : Kind → List ℕ → Result Script BadLine
-judged kind text =
+-- the draft behind the lines from this number on, of which the first ones belong to a text
+abbrev pub judged_from : {D : Type 0} → LineJudge D → ℕ → ℕ → D → List (List ℕ) → Result D BadLine
+judged_from judge number texts draft [] = Ok draft
+judged_from judge number (suc texts) draft (line ∷ behind) =
+    unless_many number (judged_from judge (number + 1) texts draft behind)
+judged_from judge number zero draft (line ∷ behind) =
+    unless_many number (told number (judge number (bare line) behind draft)
+    (λ after. judged_from judge (number + 1) after.1 after.0 behind))
+
+-- the script of the draft, if there is one
+abbrev pub made : {D S : Type 0} → (D → S) → Result D BadLine → Result S BadLine
+made whole (Ok draft) = Ok (whole draft)
+made whole (Err bad) = Err bad
+
+-- what a whole text comes to; one of more than 4,194,304 bytes is Long at line 0
+abbrev pub judged_whole : {D S : Type 0} → LineJudge D → D → (D → S) → List ℕ → Result S BadLine
+judged_whole judge draft whole text =
     if nat_lt 4194304 (length text) then Err (0, Long)
-    else judged_from kind 1 0 no_lines (lines_of text)
+    else made whole (judged_from judge 1 0 draft (lines_of text))
+
+-- the script that a text spells, or its first bad line
+unfoldable pub judged : Kind → List ℕ → Result Script BadLine
+judged kind text = judged_whole (after_line kind) no_lines script_of text
 
 -- the answer is the script that the text spells, or its first bad line; memory is free
 abbrev pub Answers : {A : Type 0} → Result A ScriptFault → Result A BadLine → Type 0

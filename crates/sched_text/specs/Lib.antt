@@ -10,3 +10,5 @@ pub mod Tenants
 pub mod Drafts
 pub mod Fits
 pub mod Judged
+pub mod CallLines
+pub mod CallDrafts

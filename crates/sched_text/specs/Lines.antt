@@ -1,5 +1,5 @@
 -- What each line of a script says by itself: its word, how many fields it has, and what they spell.
-use Rattle.std.specs.Prelude.{ℕ, ◌==◌, Bool, true, false, List, length, codes, Option, Some, None, option_and_then, Result, Ok, Err, if◌then◌else◌}
+use Rattle.std.specs.Prelude.{ℕ, ◌==◌, Bool, true, false, List, length, codes, Option, Some, None, Result, Ok, Err, if◌then◌else◌}
 use Rattle.std.specs.Option.{option_map_or}
 use Rattle.std.specs.Str.{bytes_eq}
 use Rattle.sched_text.specs.declared.code.LineCode.{LineCode}

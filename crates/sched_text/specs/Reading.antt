@@ -1,5 +1,5 @@
 -- How the readers go about it: numbers digit by digit, rows from the front.
-use Rattle.std.specs.Prelude.{ℕ, zero, ◌+◌, nat_lt, List, [], ◌∷◌, Option, Some, None, option_and_then, if◌then◌else◌}
+use Rattle.std.specs.Prelude.{ℕ, ◌+◌, nat_lt, List, [], ◌∷◌, Option, Some, option_and_then, if◌then◌else◌}
 use Rattle.sp_base.specs.declared.numbers.TableId.{TableId}
 use Rattle.sp_base.specs.declared.numbers.TenantId.{TenantId}
 use Rattle.sched_text.specs.Fields.{next_digit}

@@ -1,5 +1,5 @@
 -- What the lines and fields of a text give: a value, or a code.
-use Rattle.std.specs.Prelude.{◌≡◌, ℕ, Bool, Option, Some, None, Result, Ok, Err, if◌then◌else◌}
+use Rattle.std.specs.Prelude.{◌≡◌, Bool, Result, Ok, Err, if◌then◌else◌}
 use Rattle.sched_text.specs.declared.code.LineCode.{LineCode}
 use Rattle.sched_text.specs.declared.line.LineFault.{LineFault}
 use Rattle.sched_text.specs.declared.line.LineFault.TheVariants as faults

@@ -2,6 +2,9 @@
 //! first bad line.
 #![tactic(auto)]
 
+mod call_draft;
+mod call_line;
+mod call_lines;
 mod calls;
 mod code;
 mod draft;
@@ -20,6 +23,6 @@ pub use calls::{CallItem, CallScript};
 pub use code::LineCode;
 pub use event::Event;
 pub use fault::ScriptFault;
-pub use read::{read_script, read_setup};
+pub use read::{read_calls, read_script, read_setup};
 pub use rows::Rows;
 pub use script::{Head, Script};

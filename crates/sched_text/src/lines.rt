@@ -76,7 +76,7 @@ fn word(kind: Kind, text: &[u8]) -> Result<Word, LineFault>
 
 /// So many fields, with the word.
 #[tactic(auto, unfolding(crate::specs::Lines::counted))]
-fn counted(fields: &[&[u8]], count: usize) -> Result<(), LineFault>
+pub fn counted(fields: &[&[u8]], count: usize) -> Result<(), LineFault>
     ensures { Gives (λ x. x) result (counted count (map (λ x. x.now) fields.now)) }
 {
     if fields.len() == count {

@@ -2,11 +2,14 @@
 
 ghost use Rattle.std.specs.Prelude.{◌≡◌, IfOk};
 ghost use Rattle.sched_text.specs.Fits.{IsScript};
-ghost use Rattle.sched_text.specs.Drafts.{no_lines};
-ghost use Rattle.sched_text.specs.Judged.{judged, judged_from, Answers};
+ghost use Rattle.sched_text.specs.CallDrafts.{calls_judged, after_call_line, no_calls, call_script_of, IsCallScript};
+ghost use Rattle.sched_text.specs.Drafts.{no_lines, script_of};
+ghost use Rattle.sched_text.specs.Judged.{judged, after_line, judged_from, made, Answers};
 ghost use Rattle.sched_text.specs.Texts.{lines_of};
 ghost use Rattle.sched_text.specs.declared.line.Kind.TheVariants.{Play, SetUp};
 
+use crate::call_draft::CallDraft;
+use crate::calls::CallScript;
 use crate::code::LineCode;
 use crate::draft::Draft;
 use crate::fault::ScriptFault;
@@ -35,6 +38,18 @@ pub fn read_setup(alloc: Global, text: &[u8]) -> Result<Script, ScriptFault>
     read(alloc, Kind::SetUp, text)
 }
 
+/// The script of calls that a text spells, or its first bad line.
+#[tactic(auto, unfolding(crate::specs::CallDrafts::calls_judged))]
+pub fn read_calls(alloc: Global, text: &[u8]) -> Result<CallScript, ScriptFault>
+    ensures answer { Answers result (calls_judged text.now) }
+    ensures fits { IfOk result IsCallScript }
+{
+    if text.len() as u64 > MOST_SCRIPT {
+        return Err(bad_line(0, LineCode::Long));
+    }
+    read_call_lines(alloc, text)
+}
+
 /// The script of this kind that a text spells, or its first bad line.
 #[tactic(auto, unfolding(crate::specs::Judged::judged))]
 fn read(alloc: Global, kind: Kind, text: &[u8]) -> Result<Script, ScriptFault>
@@ -56,7 +71,7 @@ fn bad_line(line: u32, code: LineCode) -> ScriptFault
 
 /// The script that these lines spell, or the first bad one.
 fn read_lines(alloc: Global, kind: Kind, text: &[u8]) -> Result<Script, ScriptFault>
-    ensures answer { Answers result (judged_from kind 1 0 no_lines (lines_of text.now)) }
+    ensures answer { Answers result (made script_of (judged_from (after_line kind) 1 0 no_lines (lines_of text.now))) }
     ensures fits { IfOk result IsScript }
 {
     let mut draft = Draft::new(alloc);
@@ -67,6 +82,32 @@ fn read_lines(alloc: Global, kind: Kind, text: &[u8]) -> Result<Script, ScriptFa
             return Err(bad_line(number, LineCode::Many));
         }
         let taken = match draft.read_line(alloc, kind, number, line, behind) {
+            Ok(taken) => taken,
+            Err(LineFault::Code(code)) => return Err(bad_line(number, code)),
+            Err(LineFault::Memory) => return Err(ScriptFault::Memory),
+        };
+        number += 1 + taken;
+        if number > LINE_TOO_MANY {
+            return Err(bad_line(LINE_TOO_MANY, LineCode::Many));
+        }
+        rest = behind_lines(behind, taken);
+    }
+    Ok(draft.into_script())
+}
+
+/// The script of calls that these lines spell, or the first bad one.
+fn read_call_lines(alloc: Global, text: &[u8]) -> Result<CallScript, ScriptFault>
+    ensures answer { Answers result (made call_script_of (judged_from after_call_line 1 0 no_calls (lines_of text.now))) }
+    ensures fits { IfOk result IsCallScript }
+{
+    let mut draft = CallDraft::new(alloc);
+    let mut rest = text;
+    let mut number = 1;
+    while let Some((line, behind)) = first_line(rest) {
+        if number >= LINE_TOO_MANY {
+            return Err(bad_line(number, LineCode::Many));
+        }
+        let taken = match draft.read_line(alloc, number, line, behind) {
             Ok(taken) => taken,
             Err(LineFault::Code(code)) => return Err(bad_line(number, code)),
             Err(LineFault::Memory) => return Err(ScriptFault::Memory),

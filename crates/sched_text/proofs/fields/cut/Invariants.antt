@@ -1,5 +1,5 @@
 -- the bytes passed over, and then what the cut of the others gives
-use Rattle.std.proofs.Common.{◌≡◌, ◌++◌, take, drop}
+use Rattle.std.proofs.Common.{◌≡◌, take, drop}
 use Rattle.sched_text.specs.Fields.{cut}
 use Rattle.sched_text.proofs.Cuts.{with_front}
 use Rattle.sched_text.proofs.fields.cut.Given as goal

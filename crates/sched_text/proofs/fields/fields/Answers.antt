@@ -1,4 +1,4 @@
-use Rattle.std.proofs.Common.{rules, ◌≡◌, List, ℕ, arith}
+use Rattle.std.proofs.Common.{rules}
 use Rattle.sched_text.specs.Fields.{fields_of}
 use Rattle.sched_text.proofs.Cuts.{last_field, next_field}
 use Rattle.sched_text.proofs.fields.fields.Goals as goal

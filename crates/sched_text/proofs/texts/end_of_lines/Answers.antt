@@ -1,4 +1,4 @@
-use Rattle.std.proofs.Common.{rules, ◌≡◌}
+use Rattle.std.proofs.Common.{rules}
 use Rattle.sched_text.proofs.TextLines.{passed_one, passed_out}
 use Rattle.sched_text.proofs.texts.end_of_lines.Goals as goal
 

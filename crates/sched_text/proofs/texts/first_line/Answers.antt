@@ -1,4 +1,4 @@
-use Rattle.std.proofs.Common.{rules, ◌≡◌}
+use Rattle.std.proofs.Common.{rules}
 use Rattle.sched_text.proofs.TextLines.{cut_shorter}
 use Rattle.sched_text.proofs.texts.first_line.Goals as goal
 
