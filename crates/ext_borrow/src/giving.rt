@@ -1,4 +1,4 @@
-ghost use Rattle.std.specs.Prelude.{◌≡◌, ◌+◌, ◌++◌, ◌∷◌, [], OnOk};
+ghost use Rattle.std.specs.Prelude.{◌≡◌, ◌+◌, ◌^◌, ◌++◌, ◌∷◌, [], OnOk, OnErr};
 ghost use Rattle.ext_mean.specs.Borrowing.{block_giving, giving, numbered};
 ghost use Rattle.ext_mean.specs.Typing.{arm_name};
 
@@ -21,6 +21,8 @@ impl Gathered {
     fn count_one(&mut self) -> Result<(), Memory>
         ensures count { OnOk result (self.new.count ≡ self.old.count + 1) }
         ensures gifts { self.new.gifts ≡ self.old.gifts }
+        // No memory is taken: only a declaration past the numbers of 64 bits is too many.
+        ensures full { OnErr result (self.old.count + 1 ≡ 2 ^ 64) }
     {
         match self.count.checked_add(1) {
             Some(count) => {

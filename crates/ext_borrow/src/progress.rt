@@ -1,4 +1,4 @@
-ghost use Rattle.std.specs.Prelude.{◌≡◌, IfOk, OnOk, [], ◌∷◌};
+ghost use Rattle.std.specs.Prelude.{◌≡◌, ◌+◌, ◌^◌, IfOk, OnOk, OnErr, [], ◌∷◌};
 ghost use Rattle.ext_borrow.specs.Progress.{after, behind, joined};
 
 use ext_mean::BorrowCode;
@@ -16,7 +16,9 @@ pub struct Progress {
 impl Progress {
     /// Goes on behind one item.
     pub fn note(&mut self, code: Option<BorrowCode>) -> Result<(), Memory>
-        ensures { OnOk result (self.new ≡ after self.old (code ∷ [])) }
+        ensures ok { OnOk result (self.new ≡ after self.old (code ∷ [])) }
+        // No memory is taken: only an item past the numbers of 32 bits is too many.
+        ensures full { OnErr result (self.old.item + 1 ≡ 2 ^ 32) }
     {
         if self.found.is_none() {
             if let Some(code) = code {
@@ -34,7 +36,9 @@ impl Progress {
 
     /// The place behind this item, with nothing found.
     pub fn behind(&self) -> Result<Progress, Memory>
-        ensures { IfOk result (λ progress. progress ≡ behind self.now) }
+        ensures ok { IfOk result (λ progress. progress ≡ behind self.now) }
+        // No memory is taken: only an item past the numbers of 32 bits is too many.
+        ensures full { OnErr result (self.now.item + 1 ≡ 2 ^ 32) }
     {
         match self.item.checked_add(1) {
             Some(item) => Ok(Progress { item, found: None }),

@@ -1,10 +1,13 @@
 use ext_mean::BorrowCode;
+use thiserror::Error;
 
 /// Why a program was not accepted.
-#[derive(Clone, Copy, Debug, PartialEq, Eq)]
+#[derive(Clone, Copy, Debug, PartialEq, Eq, Error)]
 pub enum BorrowRefusal {
     /// The first faulty item, numbered from 0 in text order, with its first code.
+    #[error("item {item} is refused: {code:?}")]
     Fault { item: u32, code: BorrowCode },
     /// There was no memory, or the items are too many for a number of 32 bits.
+    #[error("out of memory")]
     Memory,
 }

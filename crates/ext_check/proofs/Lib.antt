@@ -5,3 +5,4 @@ pub mod TypeCounts
 pub mod Verdicts
 pub mod OneRefusal
 pub mod Told
+pub mod Judged

@@ -1,4 +1,4 @@
-ghost use Rattle.ext_check.specs.Laws.{RefusedAreNotAccepted, TextsHaveOneRefusal};
+ghost use Rattle.ext_check.specs.Laws.{EveryTextIsJudged, RefusedAreNotAccepted, TextsHaveOneRefusal};
 
 /// A text has at most one first refusal: one line and one code.
 pub fn texts_have_one_refusal()
@@ -8,4 +8,9 @@ pub fn texts_have_one_refusal()
 /// A text that is refused is accepted as no program.
 pub fn refused_are_not_accepted()
     ensures { RefusedAreNotAccepted }
+{}
+
+/// Every text is accepted or refused.
+pub fn every_text_is_judged()
+    ensures { EveryTextIsJudged }
 {}

@@ -7,4 +7,4 @@ mod laws;
 
 pub use check::check_text;
 pub use fault::CheckFault;
-pub use laws::{refused_are_not_accepted, texts_have_one_refusal};
+pub use laws::{every_text_is_judged, refused_are_not_accepted, texts_have_one_refusal};

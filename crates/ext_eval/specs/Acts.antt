@@ -1,7 +1,8 @@
 -- What statements with neither a block nor a call do behind their unit, by their operands.
-use Rattle.std.specs.Prelude.{ℕ, true, List, [], ◌∷◌, Some, nat_lt}
+use Rattle.std.specs.Prelude.{ℕ, List, [], ◌∷◌, Some, nat_lt}
 use Rattle.ext_mean.specs.declared.expr.Expr.{Expr}
-use Rattle.ext_mean.specs.Work.{World, ◌>>=◌, give}
+use Rattle.sp_base.specs.declared.outcomes.Trap.TheVariants.{Range}
+use Rattle.ext_mean.specs.Work.{World, ◌>>=◌, give, require}
 use Rattle.ext_mean.specs.MeaningValues.{number_of, bytes_of, word_bytes}
 use Rattle.ext_mean.specs.MeaningExpressions.{evaluate, variable}
 use Rattle.ext_mean.specs.MeaningStatements.{Course, goes_on, declare, assign, overwrite, put, del, resp}
@@ -19,21 +20,22 @@ abbrev pub sets : World → List ℕ → Expr → Expr → Course
 sets world name place expression = goes_on (do
   at ← evaluate world place
   byte ← evaluate world expression
-  overwrite name (nat_lt (number_of byte) 256) (number_of at) (number_of byte ∷ []))
+  _ ← require (nat_lt (number_of byte) 256) Range
+  overwrite name (number_of at) (number_of byte ∷ []))
 
 -- `set8(name, place, expression);`
 abbrev pub sets_word : World → List ℕ → Expr → Expr → Course
 sets_word world name place expression = goes_on (do
   at ← evaluate world place
   word ← evaluate world expression
-  overwrite name true (number_of at) (word_bytes (number_of word)))
+  overwrite name (number_of at) (word_bytes (number_of word)))
 
 -- `copy(name, place, source);`
 abbrev pub copies : World → List ℕ → Expr → Expr → Course
 copies world name place source = goes_on (do
   at ← evaluate world place
   bytes ← evaluate world source
-  overwrite name true (number_of at) (bytes_of bytes))
+  overwrite name (number_of at) (bytes_of bytes))
 
 -- `put(name);`
 abbrev pub puts : List ℕ → Course

@@ -9,9 +9,11 @@ use crate::changes::{del, overwrite, put, resp};
 use crate::expressions::evaluate;
 use crate::halt::Halt;
 use crate::locals::{assign, declare, variable};
+use crate::steps::require;
 use crate::values::{bytes_of, number_of};
 use crate::world::World;
 use ext_mean::{Expr, Name, State, Value};
+use sp_base::Trap;
 use sqlite_items::Items;
 
 /// `let name: kind = value;`
@@ -55,11 +57,8 @@ pub fn sets(
     let place = evaluate(world, state, place)?;
     let value = evaluate(world, state, value)?;
     let number = number_of(&value);
-    if number < 256 {
-        overwrite(world, state, name, true, number_of(&place), &[number as u8])?;
-        return Ok(None);
-    }
-    overwrite(world, state, name, false, number_of(&place), &[0])?;
+    require(state, number < 256, Trap::Range)?;
+    overwrite(world, state, name, number_of(&place), &[number as u8])?;
     Ok(None)
 }
 
@@ -76,7 +75,7 @@ pub fn sets_word(
     let place = evaluate(world, state, place)?;
     let value = evaluate(world, state, value)?;
     let bytes = number_of(&value).to_le_bytes();
-    overwrite(world, state, name, true, number_of(&place), &bytes)?;
+    overwrite(world, state, name, number_of(&place), &bytes)?;
     Ok(None)
 }
 
@@ -92,14 +91,7 @@ pub fn copies(
 {
     let place = evaluate(world, state, place)?;
     let source = evaluate(world, state, source)?;
-    overwrite(
-        world,
-        state,
-        name,
-        true,
-        number_of(&place),
-        bytes_of(&source),
-    )?;
+    overwrite(world, state, name, number_of(&place), bytes_of(&source))?;
     Ok(None)
 }
 

@@ -115,21 +115,20 @@ pub fn resp(world: &World, state: &mut State, bytes: &[u8]) -> Result<(), Halt>
     Ok(())
 }
 
-/// Bytes written into the buffer of a variable, where the test allows it.
+/// Bytes written into the buffer of a variable, where they are within it.
 pub fn overwrite(
     world: &World,
     state: &mut State,
     name: &Name,
-    allowed: bool,
     place: u64,
     bytes: &[u8],
 ) -> Result<(), Halt>
-    ensures { Gives result state.new (overwrite name.now allowed place bytes.now state.old) }
+    ensures { Gives result state.new (overwrite name.now place bytes.now state.old) }
 {
     let buffer = variable(world, state, name)?;
     let old = buffer_of(&buffer);
     let within = fits(place, bytes.len() as u64, old.len());
-    require(state, allowed && within, Trap::Range)?;
+    require(state, within, Trap::Range)?;
     let new = overwritten(world.alloc, old, place as usize, bytes)?;
     let buffer = with_bytes(world.alloc, &buffer, new)?;
     assign(world, state, name, buffer)

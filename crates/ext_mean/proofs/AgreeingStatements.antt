@@ -102,13 +102,18 @@ module _ (free : Run → Mark → Type 0) (small : World) (budget : ℕ) (known 
       guarded (is_key key) Size (checked-write small) (checked-write large) (λ _.
       guarded (can_write small.view.rights table) Denied (meaning.write deletion) (meaning.write deletion) (λ _. write-agrees deletion))
 
-  overwrite-agrees : (name : List ℕ) (fits : Bool) (place : ℕ) (bytes : List ℕ) → R (meaning.overwrite name fits place bytes) (meaning.overwrite name fits place bytes)
-  overwrite-agrees name fits place bytes =
+  overwrite-agrees : (name : List ℕ) (place : ℕ) (bytes : List ℕ) → R (meaning.overwrite name place bytes) (meaning.overwrite name place bytes)
+  overwrite-agrees name place bytes =
       next (expressions.variable-agrees free small budget known grows name)
       (λ buffer.
       let old = buffer_of buffer in
       let work : Work (Unit {0}) = meaning.assign name (with_bytes buffer (overwritten old place bytes)) in
-      guarded (fits && nat_le (place + length bytes) (length old)) Range work work (λ _. assign-agrees name (with_bytes buffer (overwritten old place bytes))))
+      guarded (nat_le (place + length bytes) (length old)) Range work work (λ _. assign-agrees name (with_bytes buffer (overwritten old place bytes))))
+
+  byte-agrees : (name : List ℕ) (place byte : ℕ) → R (require (nat_lt byte 256) Range >>= (λ _. meaning.overwrite name place (byte ∷ []))) (require (nat_lt byte 256) Range >>= (λ _. meaning.overwrite name place (byte ∷ [])))
+  byte-agrees name place byte =
+      guarded (nat_lt byte 256) Range (meaning.overwrite name place (byte ∷ [])) (meaning.overwrite name place (byte ∷ []))
+      (λ _. overwrite-agrees name place (byte ∷ []))
 
   scoped-agrees : (course course' : Course) → R course course' → R (meaning.scoped course) (meaning.scoped course')
   scoped-agrees course course' related state =
@@ -266,9 +271,9 @@ module _ (free : Run → Mark → Type 0) (small : World) (budget : ℕ) (known 
     form-agrees (Statement-F.While test body) = loops-agree _ _ _ _ (evaluated test) body.1
     form-agrees (Statement-F.Get table key name one other) = next (evaluated table) (λ number. next (evaluated key) (λ bytes. next (get-agrees (number_of number) (bytes_of bytes)) (arm-agrees name _ _ _ _ one.1 other.1)))
     form-agrees (Statement-F.Multi table keys width name one other) = next (evaluated table) (λ number. next (evaluated keys) (λ bytes. next (evaluated width) (λ wide. multiget-agrees (number_of number) (bytes_of bytes) (number_of wide) _ _ (arm-agrees name _ _ _ _ one.1 other.1))))
-    form-agrees (Statement-F.Set name place expression) = goes-on-agrees _ _ (next (evaluated place) (λ at. next (evaluated expression) (λ byte. overwrite-agrees name (nat_lt (number_of byte) 256) (number_of at) (number_of byte ∷ []))))
-    form-agrees (Statement-F.Set8 name place expression) = goes-on-agrees _ _ (next (evaluated place) (λ at. next (evaluated expression) (λ word. overwrite-agrees name true (number_of at) (word_bytes (number_of word)))))
-    form-agrees (Statement-F.Copy name place source) = goes-on-agrees _ _ (next (evaluated place) (λ at. next (evaluated source) (λ bytes. overwrite-agrees name true (number_of at) (bytes_of bytes))))
+    form-agrees (Statement-F.Set name place expression) = goes-on-agrees _ _ (next (evaluated place) (λ at. next (evaluated expression) (λ byte. byte-agrees name (number_of at) (number_of byte))))
+    form-agrees (Statement-F.Set8 name place expression) = goes-on-agrees _ _ (next (evaluated place) (λ at. next (evaluated expression) (λ word. overwrite-agrees name (number_of at) (word_bytes (number_of word)))))
+    form-agrees (Statement-F.Copy name place source) = goes-on-agrees _ _ (next (evaluated place) (λ at. next (evaluated source) (λ bytes. overwrite-agrees name (number_of at) (bytes_of bytes))))
     form-agrees (Statement-F.Put name) = goes-on-agrees _ _ (next (expressions.variable-agrees free small budget known grows name) put-agrees)
     form-agrees (Statement-F.Del table key) = goes-on-agrees _ _ (next (evaluated table) (λ number. next (evaluated key) (λ bytes. del-agrees (number_of number) (bytes_of bytes))))
     form-agrees (Statement-F.Resp expression) = goes-on-agrees _ _ (next (evaluated expression) (λ bytes. resp-agrees (bytes_of bytes)))

@@ -113,7 +113,7 @@ module _ (free : Run → Mark → Type 0) (small : World) (budget : ℕ) (known 
       → Agree free large state.used (known_or_wanted (small.view.known place) place (paid 16 state)) (known_or_wanted (known place) place (paid 16 state))
   known-step place state bound readable sized =
       let owes = owes-known place state bound readable sized (known place) refl in
-      elim (grows.knows place) [
+      elim (grows.knows place readable) [
         | inl e ↦ record { same = inl (subst (λ z. known_or_wanted (known place) place (paid 16 state) ≡ known_or_wanted z place (paid 16 state)) e refl); owes = owes }
         | inr f ↦ known-freed place state (small.view.known place) (known place) f.0 f.1 owes
       ]

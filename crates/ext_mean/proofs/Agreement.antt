@@ -88,7 +88,7 @@ grown world budget known =
 pub record Grows (free : Run → Mark → Type 0) (world : World) (budget : ℕ) (known : Place → Option (Option (List ℕ))) : Type 0 where
   pub fits : world.budget ≤ budget
   pub spends : (budget ≡ world.budget) ⊎ ((m : Mark) → Reaches (world.budget + 1) m → free Spent m)
-  pub knows : (place : Place) → (known place ≡ world.view.known place) ⊎ ((world.view.known place ≡ None) × ((used : ℕ) → free (Wants (record { 0 = place.table }) place.key used) (Going used)))
+  pub knows : (place : Place) → IsTrue (can_read world.view.rights place.table) → (known place ≡ world.view.known place) ⊎ ((world.view.known place ≡ None) × ((used : ℕ) → free (Wants (record { 0 = place.table }) place.key used) (Going used)))
   pub closed : (run : Run) (used : ℕ) (m : Mark) → free run (Going used) → Owes (grown world budget known) used m → free run m
 
 -- the first step was stopped in a way that is free

@@ -7,7 +7,7 @@ use Rattle.sp_base.specs.declared.reads.ReadItem.{ReadItem}
 use Rattle.sp_base.specs.declared.rights.Level.{Level}
 use Rattle.sp_base.specs.Places.{Place, same_place}
 use Rattle.ext_mean.specs.declared.tree.Program.{Program}
-use Rattle.ext_mean.specs.Asked.{AreAsked, IsWanted, WantedReadJoins, ReadsCost}
+use Rattle.ext_mean.specs.Asked.{IsWanted, WantedReadJoins, ReadsCost}
 use Rattle.ext_mean.specs.declared.run.Run.{Run}
 use Rattle.ext_mean.specs.declared.run.Run.TheVariants.{Done, Trapped, Spent, Wants}
 use Rattle.ext_mean.specs.Laws.{Answered, NoneYet, OneMore, place_in}
@@ -46,7 +46,7 @@ known-last (first ∷ reads) read none =
     first-or-some (same_place (place_of first) (place_of read)) first.value (value_read (reads ++ read ∷ []) (place_of read)) (known-last reads read) none
 
 extends-by : (reads more : List ReadItem) (rights : List (TableId × Level)) → Extends (part reads rights) (part (reads ++ more) rights)
-extends-by reads more rights = record { rights = refl; known = known-before reads more }
+extends-by reads more rights = record { rights = refl; known = λ place readable. known-before reads more place }
 
 -- a run that wants a place wants the record there
 wanted-run : (run : Run) (read : ReadItem) → IsWanted run read → (used : ℕ) × (run ≡ Wants read.table read.key used)
@@ -72,14 +72,14 @@ answered-behind program args budget rights earlier [] answered asked =
     subst (λ reads. Answered program args budget (part reads rights) (length reads)) (sym (append-nil earlier)) answered
 answered-behind program args budget rights earlier (read ∷ later) answered asked =
     let wanted : IsWanted (mean program args budget (part earlier rights)) read =
-        subst (λ reads. IsWanted (mean program args budget (part reads rights)) read) (append-nil earlier) (asked 0 read refl) in
+    subst (λ reads. IsWanted (mean program args budget (part reads rights)) read) (append-nil earlier) (asked 0 read refl) in
     let run = wanted-run (mean program args budget (part earlier rights)) read wanted in
     let one : Answered program args budget (part (earlier ++ read ∷ []) rights) (length earlier + 1) =
     OneMore (part earlier rights) (part (earlier ++ read ∷ []) rights) (length earlier) read.table read.key run.0 answered run.1 (extends-by earlier (read ∷ []) rights) (known-last earlier read) in
     let many = length-append earlier (read ∷ []) in
     let next = subst (λ n. Answered program args budget (part (earlier ++ read ∷ []) rights) n) (sym many) one in
     let behind : AskedBehind program args budget rights (earlier ++ read ∷ []) later = λ k other found.
-        subst (λ reads. IsWanted (mean program args budget (part reads rights)) other) (sym (append_assoc earlier (read ∷ []) (take k later))) (asked (suc k) other found) in
+    subst (λ reads. IsWanted (mean program args budget (part reads rights)) other) (sym (append_assoc earlier (read ∷ []) (take k later))) (asked (suc k) other found) in
     subst (λ reads. Answered program args budget (part reads rights) (length reads)) (append_assoc earlier (read ∷ []) later)
     (answered-behind program args budget rights (earlier ++ read ∷ []) later next behind)
 

@@ -34,7 +34,6 @@ use Rattle.ext_mean.proofs.Equations.{execute-roll, run_block-roll}
 use Rattle.ext_mean.proofs.Keeping as keeping
 use Rattle.ext_mean.proofs.Keeping.{IsAllowed, Holds, LocalHolds, Keeps, StepKeeps, Any}
 use Rattle.ext_mean.proofs.KeepingExpressions as values
-use Rattle.ext_mean.proofs.Pieces.{and-both}
 use Rattle.ext_mean.proofs.Places.{changed-distinct}
 use Rattle.ext_mean.proofs.WantsProved.{key-tested}
 
@@ -262,14 +261,18 @@ module _ (world : World) where
   resp-kept bytes state keeps =
       resp-cases (nat_le (length state.reply + length bytes) 4096) bytes state keeps (leb-true (length state.reply + length bytes) 4096)
 
-  overwrite-kept : (name : List ℕ) (fits : Bool) (place : ℕ) (bytes : List ℕ) → Done (meaning.overwrite name fits place bytes)
-  overwrite-kept name fits place bytes =
+  overwrite-kept : (name : List ℕ) (place : ℕ) (bytes : List ℕ) → Done (meaning.overwrite name place bytes)
+  overwrite-kept name place bytes =
       next (Holds rights) (values.variable-kept world name) (λ buffer holds.
       let old = buffer_of buffer in
       let new = with_bytes buffer (overwritten old place bytes) in
-      guarded (fits && nat_le (place + length bytes) (length old)) Range (meaning.assign name new) (λ test.
-      let inside = leb-true (place + length bytes) (length old) (and-both fits (nat_le (place + length bytes) (length old)) test).1 in
+      guarded (nat_le (place + length bytes) (length old)) Range (meaning.assign name new) (λ test.
+      let inside = leb-true (place + length bytes) (length old) test in
       assign-kept name new (with_bytes-holds rights buffer (overwritten old place bytes) (overwritten-length old place bytes inside) holds)))
+
+  byte-kept : (name : List ℕ) (place byte : ℕ) → Done (require (nat_lt byte 256) Range >>= (λ _. meaning.overwrite name place (byte ∷ [])))
+  byte-kept name place byte =
+      guarded (nat_lt byte 256) Range (meaning.overwrite name place (byte ∷ [])) (λ _. overwrite-kept name place (byte ∷ []))
 
   goes-on-kept : (work : Work (Unit {0})) → Done work → Coursed (meaning.goes_on work)
   goes-on-kept work kept = next Any kept (λ _ _. none)
@@ -304,11 +307,11 @@ module _ (world : World) where
     form-kept (Statement-F.Multi table keys width name one other) =
         operand table (λ number _. operand keys (λ bytes _. operand width (λ wide _. multiget-kept (number_of number) (bytes_of bytes) (number_of wide) _ (arm-kept name _ _ one.1 other.1))))
     form-kept (Statement-F.Set name place expression) =
-        goes-on-kept _ (operand place (λ at _. operand expression (λ byte _. overwrite-kept name (nat_lt (number_of byte) 256) (number_of at) (number_of byte ∷ []))))
+        goes-on-kept _ (operand place (λ at _. operand expression (λ byte _. byte-kept name (number_of at) (number_of byte))))
     form-kept (Statement-F.Set8 name place expression) =
-        goes-on-kept _ (operand place (λ at _. operand expression (λ word _. overwrite-kept name true (number_of at) (word_bytes (number_of word)))))
+        goes-on-kept _ (operand place (λ at _. operand expression (λ word _. overwrite-kept name (number_of at) (word_bytes (number_of word)))))
     form-kept (Statement-F.Copy name place source) =
-        goes-on-kept _ (operand place (λ at _. operand source (λ bytes _. overwrite-kept name true (number_of at) (bytes_of bytes))))
+        goes-on-kept _ (operand place (λ at _. operand source (λ bytes _. overwrite-kept name (number_of at) (bytes_of bytes))))
     form-kept (Statement-F.Put name) = goes-on-kept _ (next (Holds rights) (values.variable-kept world name) put-kept)
     form-kept (Statement-F.Del table key) = goes-on-kept _ (operand table (λ number _. operand key (λ bytes _. del-kept (number_of number) (bytes_of bytes))))
     form-kept (Statement-F.Resp expression) = goes-on-kept _ (operand expression (λ bytes _. resp-kept (bytes_of bytes)))

@@ -6,9 +6,10 @@ use Rattle.std.proofs.lemmas.Bool.Decides.{nat_tests}
 use Rattle.std.proofs.lemmas.List.Elements.{recursion_from_All}
 use Rattle.std.proofs.lemmas.Map.Keys.{IsDistinct-cons, IsDistinct-head, IsDistinct-tail}
 use Rattle.std.proofs.lemmas.Map.Steps.{length-le_from_distinct_below}
-use Rattle.std.specs.Prelude.{◌||◌}
+use Rattle.std.specs.Prelude.{IsTrue, ◌||◌}
 use Rattle.sp_base.specs.declared.numbers.TableId.{TableId}
 use Rattle.sp_base.specs.Places.{Place, same_place}
+use Rattle.sp_base.specs.RightsList.{can_read}
 use Rattle.ext_mean.specs.declared.run.Run.{Run}
 use Rattle.ext_mean.specs.declared.run.Run.TheVariants.{Done, Trapped, Spent, Wants}
 use Rattle.ext_mean.specs.declared.tree.Program.{Program}
@@ -39,14 +40,14 @@ persist-grows : (args : List ℕ) (budget : ℕ) (small large : View) → Extend
 persist-grows args budget small large extends = record {
   fits = omega arith;
   spends = inl refl;
-  knows = λ place. knows-at place (small.known place) (large.known place) refl refl;
+  knows = λ place readable. knows-at place readable (small.known place) (large.known place) refl refl;
   closed = λ run used m free owes. known-closed large run (Going used) m free;
 }
   where
-    knows-at : (place : Place) (before later : Option (Option (List ℕ))) → small.known place ≡ before → large.known place ≡ later → (large.known place ≡ small.known place) ⊎ ((small.known place ≡ None) × ((used : ℕ) → large.known place ≢ None))
-    knows-at place (Some value) later e l = inl (extends.known place (λ none. let f : Some value ≡ None = sym e ∙ none in cc))
-    knows-at place None (Some value) e l = inr (e, λ used none. let f : Some value ≡ None = sym l ∙ none in cc)
-    knows-at place None None e l = inl (l ∙ sym e)
+    knows-at : (place : Place) → IsTrue (can_read small.rights place.table) → (before later : Option (Option (List ℕ))) → small.known place ≡ before → large.known place ≡ later → (large.known place ≡ small.known place) ⊎ ((small.known place ≡ None) × ((used : ℕ) → large.known place ≢ None))
+    knows-at place readable (Some value) later e l = inl (extends.known place readable (λ none. let f : Some value ≡ None = sym e ∙ none in cc))
+    knows-at place readable None (Some value) e l = inr (e, λ used none. let f : Some value ≡ None = sym l ∙ none in cc)
+    knows-at place readable None None e l = inl (l ∙ sym e)
 
 pub persist : WantsPersist
 persist program args budget small large table key used extends wants unknown =
@@ -84,12 +85,12 @@ shown true answer e known none = cc
 shown false answer e known none = known none
 
 without-extends : (view : View) (place : Place) → Extends (without view place) view
-without-extends view place = record { rights = refl; known = λ other. hidden (same_place other place) (view.known other) }
+without-extends view place = record { rights = refl; known = λ other readable. hidden (same_place other place) (view.known other) }
 
 without-both : (view : View) (first second : Place) → Extends (without (without view first) second) (without view second)
 without-both view first second = record {
   rights = refl;
-  known = λ other. hidden-both (same_place other first) (same_place other second) (view.known other);
+  known = λ other readable. hidden-both (same_place other first) (same_place other second) (view.known other);
 }
 
 -- a run wants something or is decided

@@ -1,6 +1,8 @@
 -- The laws of the meaning.
 use Rattle.std.proofs.Common.{◌≡◌, ◌⊎◌, inl, inr, ℕ, ◌≤◌, List, length, Option, Some, None, refl, sym, ap, ◌∙◌, subst, arith}
+use Rattle.std.specs.Prelude.{IsTrue}
 use Rattle.sp_base.specs.Places.{Place}
+use Rattle.sp_base.specs.RightsList.{can_read}
 use Rattle.ext_mean.specs.declared.run.Run.{Run}
 use Rattle.ext_mean.specs.declared.run.Run.TheVariants.{Spent, Wants}
 use Rattle.ext_mean.specs.declared.tree.Program.{Program}
@@ -37,7 +39,7 @@ greater-grows : (args : List ℕ) (budget greater : ℕ) (view : View) → budge
 greater-grows args budget greater view fits = record {
   fits = fits;
   spends = inr (λ m reach. refl);
-  knows = λ place. inl refl;
+  knows = λ place readable. inl refl;
   closed = λ run used m free owes. free;
 }
 
@@ -57,13 +59,13 @@ known-grows : (args : List ℕ) (budget : ℕ) (small large : View) → Extends 
 known-grows args budget small large extends = record {
   fits = omega arith;
   spends = inl refl;
-  knows = λ place. knows-at place (small.known place) refl;
+  knows = λ place readable. knows-at place readable (small.known place) refl;
   closed = λ run used m free owes. free;
 }
   where
-    knows-at : (place : Place) (answer : Option (Option (List ℕ))) → small.known place ≡ answer → (large.known place ≡ small.known place) ⊎ ((small.known place ≡ None) × ((used : ℕ) → want_free (Wants (record { 0 = place.table }) place.key used) (Going used)))
-    knows-at place (Some value) e = inl (extends.known place (λ none. let f : Some value ≡ None = sym e ∙ none in cc))
-    knows-at place None e = inr (e, λ used. refl)
+    knows-at : (place : Place) → IsTrue (can_read small.rights place.table) → (answer : Option (Option (List ℕ))) → small.known place ≡ answer → (large.known place ≡ small.known place) ⊎ ((small.known place ≡ None) × ((used : ℕ) → want_free (Wants (record { 0 = place.table }) place.key used) (Going used)))
+    knows-at place readable (Some value) e = inl (extends.known place readable (λ none. let f : Some value ≡ None = sym e ∙ none in cc))
+    knows-at place readable None e = inr (e, λ used. refl)
 
 pub known-records : KnownRecordsDecide
 known-records program args budget small large extends decided =

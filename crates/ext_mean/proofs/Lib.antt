@@ -25,3 +25,4 @@ pub mod PlainTexts
 pub mod Bounding
 pub mod LookupSpelled
 pub mod CanonicalForms
+pub mod Borrowers

@@ -1,5 +1,5 @@
 -- A run is the same with any number of units that holds those it used.
-use Rattle.std.proofs.Common.{◌≡◌, ◌≢◌, ◌⊎◌, inl, inr, ℕ, ◌+◌, ◌≤◌, ◌<◌, List, length, refl, sym, ap, ◌∙◌, arith, nat_le, Bool, true, false}
+use Rattle.std.proofs.Common.{◌≡◌, ◌≢◌, inl, inr, ℕ, ◌+◌, ◌≤◌, List, length, refl, sym, ap, ◌∙◌, arith, nat_le, Bool, true, false}
 use Rattle.std.proofs.lemmas.Bool.{leb-true, leb-false}
 use Rattle.ext_mean.specs.declared.run.Run.{Run}
 use Rattle.ext_mean.specs.declared.run.Run.TheVariants.{Done, Trapped, Spent, Wants}
@@ -10,7 +10,7 @@ use Rattle.ext_mean.specs.Meaning.{mean, start, ended}
 use Rattle.ext_mean.specs.Outcomes.{units_of}
 use Rattle.ext_mean.specs.Views.{View}
 use Rattle.ext_mean.specs.Work.{World, Step, Next, Ends}
-use Rattle.ext_mean.proofs.Agreement.{Mark, Going, mark, Owes, Reaches, owes-reaches, reaches-less, grown, Grows, Same}
+use Rattle.ext_mean.proofs.Agreement.{Mark, Going, mark, Owes, Reaches, owes-reaches, reaches-less, Grows, Same}
 use Rattle.ext_mean.proofs.AgreeingPrograms.{main-agrees}
 use Rattle.ext_mean.proofs.LawsProved.{world_of, run_of, mean-ended, greater-budgets}
 
@@ -26,7 +26,7 @@ fewer-grows : (args : List ℕ) (units budget : ℕ) (view : View) → units ≤
 fewer-grows args units budget view fits = record {
   fits = fits;
   spends = inr (λ m reach. (refl, reach));
-  knows = λ place. inl refl;
+  knows = λ place readable. inl refl;
   closed = over-closed (world_of args budget view) units;
 }
 

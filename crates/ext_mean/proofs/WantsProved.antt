@@ -5,6 +5,7 @@ use Rattle.std.proofs.lemmas.Bool.{leb-true}
 use Rattle.sp_base.specs.declared.numbers.TableId.{TableId}
 use Rattle.sp_base.specs.Limits.{IsKey}
 use Rattle.sp_base.specs.Places.{Place}
+use Rattle.sp_base.specs.RightsList.{can_read}
 use Rattle.ext_mean.specs.declared.run.Run.{Run}
 use Rattle.ext_mean.specs.declared.run.Run.TheVariants.{Done, Trapped, Spent, Wants}
 use Rattle.ext_mean.specs.declared.tree.Program.{Program}
@@ -27,7 +28,7 @@ pub alone : (world : World) → Grows none_free world world.budget world.view.kn
 alone world = record {
   fits = omega arith;
   spends = inl refl;
-  knows = λ place. inl refl;
+  knows = λ place readable. inl refl;
   closed = λ run used m free owes. free;
 }
 
@@ -90,13 +91,13 @@ behind-grows : (args : List ℕ) (budget : ℕ) (small large : View) → Extends
 behind-grows args budget small large extends = record {
   fits = omega arith;
   spends = inl refl;
-  knows = λ place. knows-at place (small.known place) refl;
+  knows = λ place readable. knows-at place readable (small.known place) refl;
   closed = behind-closed (world_of args budget (knowing small large));
 }
   where
-    knows-at : (place : Place) (answer : Option (Option (List ℕ))) → small.known place ≡ answer → (large.known place ≡ small.known place) ⊎ ((small.known place ≡ None) × ((used : ℕ) → Uses (world_of args budget (knowing small large)) used used))
-    knows-at place (Some value) e = inl (extends.known place (λ none. let f : Some value ≡ None = sym e ∙ none in cc))
-    knows-at place None e = inr (e, uses-none (world_of args budget (knowing small large)))
+    knows-at : (place : Place) → IsTrue (can_read small.rights place.table) → (answer : Option (Option (List ℕ))) → small.known place ≡ answer → (large.known place ≡ small.known place) ⊎ ((small.known place ≡ None) × ((used : ℕ) → Uses (world_of args budget (knowing small large)) used used))
+    knows-at place readable (Some value) e = inl (extends.known place readable (λ none. let f : Some value ≡ None = sym e ∙ none in cc))
+    knows-at place readable None e = inr (e, uses-none (world_of args budget (knowing small large)))
 
 pub same-meaning : (program : Program) (args : List ℕ) (budget : ℕ) (small large : View) → Extends small large → mean program args budget large ≡ mean program args budget (knowing small large)
 same-meaning program args budget small large extends =

@@ -1,5 +1,5 @@
 -- From what the slice variables of a function may borrow, by all its `let`s and assignments.
-use Rattle.std.specs.Prelude.{ℕ, zero, suc, ◌+◌, ◌==◌, Bool, true, false, List, [], ◌∷◌, ◌++◌, length, replicate, Option, Some, None, slice_get, slice_set, unwrap_or, if◌then◌else◌}
+use Rattle.std.specs.Prelude.{◌≡◌, ◌↔◌, ℕ, zero, suc, ◌+◌, ◌<◌, ◌==◌, Bool, true, false, List, [], ◌∷◌, ◌++◌, length, replicate, Option, Some, None, slice_get, slice_set, unwrap_or, if◌then◌else◌}
 use Rattle.ext_mean.specs.declared.borrowing.Variable.{Variable}
 use Rattle.ext_mean.specs.declared.borrowing.Origin.{Origin}
 use Rattle.ext_mean.specs.declared.borrowing.Origin.TheVariants as origin
@@ -90,6 +90,18 @@ giving = fold-Statement Giving BlockGiving giving_step block_giving_step
 unfoldable pub block_giving : Block → BlockGiving
 block_giving = fold-Block Giving BlockGiving giving_step block_giving_step
 
+-- a `let` or `=` of the function gives the variable a value of this origin
+abbrev pub IsGiven : List Gift → ℕ → Origin → Type 0
+IsGiven gifts to origin = (at : ℕ) × (slice_get gifts at ≡ Some (record { to = to; origin = origin }))
+
+-- A slice variable may borrow from a buffer: it is given a view of the buffer itself, or a slice that
+-- may borrow from it. The variables of a function are numbered from 0 and below its count.
+pub data MayBorrow (gifts : List Gift) (count buffer : ℕ) : ℕ → Type 0 where
+  by_view : {slice : ℕ} → slice < count → IsGiven gifts slice (origin.View buffer) →
+      MayBorrow gifts count buffer slice
+  by_slice : {slice : ℕ} (other : ℕ) → slice < count → IsGiven gifts slice (origin.Slice other) →
+      MayBorrow gifts count buffer other → MayBorrow gifts count buffer slice
+
 -- whether a value of this origin borrows from a buffer, where the marked slices do
 abbrev pub borrows : ℕ → List Bool → Origin → Bool
 borrows buffer marks origin.Nothing = false
@@ -110,6 +122,12 @@ rounds buffer gifts (suc more) marks = rounds buffer gifts more (one_round buffe
 -- rounds as there are variables mark all.
 unfoldable pub borrowers : List Gift → ℕ → ℕ → List Bool
 borrowers gifts count buffer = rounds buffer gifts count (replicate count false)
+
+-- the slices that are marked for a buffer are those that may borrow from it, and no others
+abbrev pub MarkedMayBorrow : Type 0
+MarkedMayBorrow =
+    (gifts : List Gift) (count buffer slice : ℕ) →
+    (is_marked (borrowers gifts count buffer) slice ≡ true) ↔ MayBorrow gifts count buffer slice
 
 -- for each variable, in the order of their numbers, the slices that may borrow from it
 abbrev pub rows : List Gift → ℕ → ℕ → ℕ → List (List Bool)

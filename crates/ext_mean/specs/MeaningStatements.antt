@@ -1,6 +1,6 @@
 -- What statements and blocks mean. Each hands on the value that it returned, or none where the run
 -- goes on behind it.
-use Rattle.std.specs.Prelude.{ℕ, zero, suc, ◌+◌, ◌/◌, ◌%◌, ◌==◌, Bool, true, List, [], ◌∷◌, ◌++◌, map, take, length, nat_le, nat_lt, ◌&&◌, ◌||◌, is_some, Option, Some, None, if◌then◌else◌}
+use Rattle.std.specs.Prelude.{ℕ, zero, suc, ◌+◌, ◌/◌, ◌%◌, ◌==◌, List, [], ◌∷◌, ◌++◌, map, take, length, nat_le, nat_lt, ◌&&◌, ◌||◌, is_some, Option, Some, None, if◌then◌else◌}
 use Rattle.sp_base.specs.declared.outcomes.Trap.TheVariants.{Range, Size, Denied, Width}
 use Rattle.sp_base.specs.declared.writes.Change.TheVariants as change
 use Rattle.sp_base.specs.declared.writes.Change.{Change}
@@ -133,11 +133,11 @@ resp bytes = do
   _ ← require (nat_le (length state.reply + length bytes) 4096) Size
   become (record state { reply = state.reply ++ bytes })
 
--- bytes written into the buffer of a variable, where the test allows it
-abbrev pub overwrite : List ℕ → Bool → ℕ → List ℕ → Work (Unit {0})
-overwrite name fits place bytes = do
+-- bytes written into the buffer of a variable, where they are within it
+abbrev pub overwrite : List ℕ → ℕ → List ℕ → Work (Unit {0})
+overwrite name place bytes = do
   buffer ← variable name
-  _ ← require (fits && nat_le (place + length bytes) (length (buffer_of buffer))) Range
+  _ ← require (nat_le (place + length bytes) (length (buffer_of buffer))) Range
   assign name (with_bytes buffer (overwritten (buffer_of buffer) place bytes))
 
 -- a statement that only works goes on behind itself
@@ -171,15 +171,16 @@ statement_form world calls (Statement-F.Multi table keys width name found_block 
 statement_form world calls (Statement-F.Set name place expression) = goes_on (do
   at ← evaluate world place
   byte ← evaluate world expression
-  overwrite name (nat_lt (number_of byte) 256) (number_of at) (number_of byte ∷ []))
+  _ ← require (nat_lt (number_of byte) 256) Range
+  overwrite name (number_of at) (number_of byte ∷ []))
 statement_form world calls (Statement-F.Set8 name place expression) = goes_on (do
   at ← evaluate world place
   word ← evaluate world expression
-  overwrite name true (number_of at) (word_bytes (number_of word)))
+  overwrite name (number_of at) (word_bytes (number_of word)))
 statement_form world calls (Statement-F.Copy name place source) = goes_on (do
   at ← evaluate world place
   bytes ← evaluate world source
-  overwrite name true (number_of at) (bytes_of bytes))
+  overwrite name (number_of at) (bytes_of bytes))
 statement_form world calls (Statement-F.Put name) = goes_on (variable name >>= put)
 statement_form world calls (Statement-F.Del table key) = goes_on (do
   number ← evaluate world table

@@ -1,9 +1,10 @@
 -- Views: what a run sees of the tables.
-use Rattle.std.specs.Prelude.{◌≡◌, ◌≢◌, ℕ, List, [], ◌∷◌, Option, Some, None, if◌then◌else◌}
+use Rattle.std.specs.Prelude.{◌≡◌, ◌≢◌, ℕ, List, [], ◌∷◌, IsTrue, Option, Some, None, if◌then◌else◌}
 use Rattle.sp_base.specs.declared.numbers.TableId.{TableId}
 use Rattle.sp_base.specs.declared.rights.Level.{Level}
 use Rattle.sp_base.specs.declared.reads.ReadItem.{ReadItem}
 use Rattle.sp_base.specs.Places.{Place, Tables, same_place}
+use Rattle.sp_base.specs.RightsList.{can_read}
 
 -- A list of rights, and what is known of each readable place: nothing, or its bytes, or that it is
 -- absent.
@@ -29,7 +30,9 @@ value_read (read ∷ reads) place =
 abbrev pub part : List ReadItem → List (TableId × Level) → View
 part reads rights = record { rights = rights; known = value_read reads }
 
--- one view knows all that another knows, alike, with the same rights
+-- One view knows all that another knows of the places that may be read, alike, with the same rights.
+-- Of the others, which both deny, each may know what it likes.
 pub record Extends (small large : View) : Type 0 where
   pub rights : large.rights ≡ small.rights
-  pub known : (place : Place) → small.known place ≢ None → large.known place ≡ small.known place
+  pub known : (place : Place) → IsTrue (can_read small.rights place.table)
+      → small.known place ≢ None → large.known place ≡ small.known place

@@ -1,3 +1,4 @@
+ghost use Rattle.ext_mean.specs.Borrowing.{MarkedMayBorrow};
 ghost use Rattle.ext_mean.specs.Confinement.{OnlyReadableIsWanted, OnlyWritableIsChanged, PlacesAreChangedOnce, RunsAreWithinLimits};
 ghost use Rattle.ext_mean.specs.Loops.{LoopsUnroll};
 ghost use Rattle.ext_mean.specs.Laws.{GreaterBudgetsMeanTheSame, KnownRecordsDecide, RunsStayWithinBudgets, UsedUnitsSuffice, WantsAreDue, WantsCost, WantsPersist};
@@ -76,4 +77,9 @@ pub fn runs_are_within_limits()
 /// A run changes each place at most once.
 pub fn places_are_changed_once()
     ensures { PlacesAreChangedOnce }
+{}
+
+/// The slices that are marked for a buffer are exactly those that may borrow from it.
+pub fn marked_may_borrow()
+    ensures { MarkedMayBorrow }
 {}

@@ -24,9 +24,9 @@ pub use examples::worked_examples;
 pub use expr::{BinOp, Expr};
 pub use laws::{
     a_wanted_read_joins, greater_budgets_mean_the_same, known_records_cost, known_records_decide,
-    loops_unroll, only_readable_is_wanted, only_writable_is_changed, places_are_changed_once,
-    reads_cost, runs_are_within_limits, runs_stay_within_budgets, used_units_suffice,
-    wants_are_due, wants_cost, wants_persist,
+    loops_unroll, marked_may_borrow, only_readable_is_wanted, only_writable_is_changed,
+    places_are_changed_once, reads_cost, runs_are_within_limits, runs_stay_within_budgets,
+    used_units_suffice, wants_are_due, wants_cost, wants_persist,
 };
 pub use lookup::{lookup_is_spelled, lookup_means, lookup_program};
 pub use name::Name;

@@ -14,3 +14,4 @@ pub mod Readings
 pub mod Statements
 pub mod Steps
 pub mod Told
+pub mod Judged

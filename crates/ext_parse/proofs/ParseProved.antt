@@ -12,9 +12,8 @@ use Rattle.ext_mean.specs.Tokens.{IsGap, Tokens, tokens_of}
 use Rattle.ext_mean.specs.Wording.{program_tokens}
 use Rattle.ext_tokens.specs.declared.scan.End.{End}
 use Rattle.ext_tokens.specs.declared.scan.End.TheVariants as end
-use Rattle.ext_tokens.specs.declared.scan.Scanned.{Scanned}
 use Rattle.ext_tokens.specs.Scanning as scanning
-use Rattle.ext_tokens.specs.Scanning.{IsEnd, IsFaulty, IsScanned}
+use Rattle.ext_tokens.specs.Scanning.{HasTokens, IsEnd, IsFaulty}
 use Rattle.ext_tokens.proofs.Readings.{tokens-part}
 use Rattle.ext_grammar.specs.Agreement.{Begin, First, at_token, at_end}
 use Rattle.ext_grammar.specs.Reading.{accepted, faulty, whole_answer}
@@ -26,18 +25,18 @@ complete-gap : (text rest : List ℕ) (placed : List Placed) (last : End) → (e
 complete-gap text rest placed (end.Text line) complete is = is.0
 complete-gap text rest placed (end.Fault line which) complete is = absurd cc
 
-pub found : (text : List ℕ) (scanned : Scanned) (program : Program) (lines : List ℕ) → length text ≤ most_text → EndsLine text → IsScanned text scanned → whole_answer (ending_of scanned.end) scanned.tokens.items ≡ accepted program lines → SpellsAt text program lines
-found text scanned program lines size ends is same =
-    let made = accepted-are-programs scanned.tokens.items (ending_of scanned.end) program lines is.sound same in
+pub found : (text : List ℕ) (placed : List Placed) (last : End) (program : Program) (lines : List ℕ) → length text ≤ most_text → EndsLine text → HasTokens text placed last → whole_answer (ending_of last) placed ≡ accepted program lines → SpellsAt text program lines
+found text placed last program lines size ends is same =
+    let made = accepted-are-programs placed (ending_of last) program lines is.sound same in
     record {
       reading = record {
-        placed = scanned.tokens.items;
+        placed = placed;
         last = is.rest;
         whole = made.1.whole;
         size = size;
         ends = ends;
         tokens = is.tokens;
-        gap = complete-gap text is.rest scanned.tokens.items scanned.end made.0 is.end;
+        gap = complete-gap text is.rest placed last made.0 is.end;
         sentence = made.1.sentence;
         bounds = made.1.bounds;
       };
@@ -90,14 +89,14 @@ fault-among text rest placed before after next which size ends tokens same begun
     let upto = tokens-part text rest 1 (before ++ next ∷ []) after (subst (λ z. Tokens text 1 z rest) joined all) in
     bad_token before next apart.0 upto.0 size ends (sound-begin text before apart.0 apart.1 begun) upto.1 has_code
 
-first-fault : (text : List ℕ) (scanned : Scanned) (line : ℕ) (which : SyntaxCode) → length text ≤ most_text → EndsLine text → IsScanned text scanned
-    → First scanned.tokens.items (ending_of scanned.end) line which → SyntaxFault text line which
-first-fault text scanned line which size ends is (at_token before next rest same begun has_code) =
-    fault-among text is.rest scanned.tokens.items before rest next _ size ends is.tokens same begun has_code
-first-fault text scanned line which size ends is (at_end begun none) =
-    fault-behind text is.rest scanned.tokens.items scanned.end size ends is.tokens is.end begun none
+first-fault : (text : List ℕ) (placed : List Placed) (last : End) (line : ℕ) (which : SyntaxCode) → length text ≤ most_text → EndsLine text → HasTokens text placed last
+    → First placed (ending_of last) line which → SyntaxFault text line which
+first-fault text placed last line which size ends is (at_token before next rest same begun has_code) =
+    fault-among text is.rest placed before rest next _ size ends is.tokens same begun has_code
+first-fault text placed last line which size ends is (at_end begun none) =
+    fault-behind text is.rest placed last size ends is.tokens is.end begun none
 
-pub fault : (text : List ℕ) (scanned : Scanned) (line : ℕ) (which : SyntaxCode) → length text ≤ most_text → EndsLine text → IsScanned text scanned
-    → whole_answer (ending_of scanned.end) scanned.tokens.items ≡ faulty line which → SyntaxFault text line which
-fault text scanned line which size ends is same =
-    first-fault text scanned line which size ends is (faults-are-first scanned.tokens.items (ending_of scanned.end) line which is.sound same)
+pub fault : (text : List ℕ) (placed : List Placed) (last : End) (line : ℕ) (which : SyntaxCode) → length text ≤ most_text → EndsLine text → HasTokens text placed last
+    → whole_answer (ending_of last) placed ≡ faulty line which → SyntaxFault text line which
+fault text placed last line which size ends is same =
+    first-fault text placed last line which size ends is (faults-are-first placed (ending_of last) line which is.sound same)

@@ -30,13 +30,13 @@ answer_to scanned = whole_answer (ending_of scanned.end) scanned.tokens.items
 
 pub if-found : (text : List ℕ) (scanned : Scanned) (answer : Answer) (result : Result Parsed ParseFault) → answer ≡ answer_to scanned → length text ≤ most_text → EndsLine text → IsScanned text scanned
     → IsAnswered result answer → IfOk result (λ parsed. SpellsAt text parsed.program parsed.lines.items)
-if-found text scanned answer (Ok parsed) this size ends is same = parse.found text scanned parsed.program parsed.lines.items size ends is (sym this ∙ same)
+if-found text scanned answer (Ok parsed) this size ends is same = parse.found text scanned.tokens.items scanned.end parsed.program parsed.lines.items size ends is (sym this ∙ same)
 if-found text scanned answer (Err e) this size ends is same = tt
 
 pub if-fault : (text : List ℕ) (scanned : Scanned) (answer : Answer) (result : Result Parsed ParseFault) → answer ≡ answer_to scanned → length text ≤ most_text → EndsLine text → IsScanned text scanned
     → IsAnswered result answer → IfErr result (λ e. Explains text e)
 if-fault text scanned answer (Ok parsed) this size ends is same = tt
-if-fault text scanned answer (Err (fault.Syntax line which)) this size ends is same = parse.fault text scanned line which size ends is (sym this ∙ same)
+if-fault text scanned answer (Err (fault.Syntax line which)) this size ends is same = parse.fault text scanned.tokens.items scanned.end line which size ends is (sym this ∙ same)
 if-fault text scanned answer (Err fault.Memory) this size ends is same = tt
 
 pub if-only : (text : List ℕ) (scanned : Scanned) (answer : Answer) (result : Result Parsed ParseFault) → answer ≡ answer_to scanned → IsScanned text scanned

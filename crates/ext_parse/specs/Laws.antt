@@ -1,5 +1,5 @@
 -- What a text spells is determined by the text.
-use Rattle.std.specs.Prelude.{◌≡◌, ℕ, List}
+use Rattle.std.specs.Prelude.{◌≡◌, ℕ, ◌⊎◌, List}
 use Rattle.ext_mean.specs.declared.tree.Program.{Program}
 use Rattle.ext_mean.specs.declared.codes.SyntaxCode.{SyntaxCode}
 use Rattle.ext_mean.specs.SyntaxFaults.{SyntaxFault}
@@ -22,3 +22,19 @@ abbrev pub FaultyTextsSpellNone : Type 0
 FaultyTextsSpellNone =
     (text : List ℕ) (line : ℕ) (which : SyntaxCode) (program : Program) (lines : List ℕ) →
     SyntaxFault text line which → SpellsAt text program lines → ⊥
+
+-- the text spells a program
+pub record SpellsSome (text : List ℕ) : Type 0 where
+  pub program : Program
+  pub lines : List ℕ
+  pub spelled : SpellsAt text program lines
+
+-- the text has a fault
+pub record HasFault (text : List ℕ) : Type 0 where
+  pub line : ℕ
+  pub which : SyntaxCode
+  pub fault : SyntaxFault text line which
+
+-- every text spells a program or has a fault
+abbrev pub EveryTextIsJudged : Type 0
+EveryTextIsJudged = (text : List ℕ) → SpellsSome text ⊎ HasFault text

@@ -4,12 +4,15 @@ ghost use Rattle.ext_parse.specs.declared.fault.ParseFault.TheVariants as fault;
 use ext_mean::SyntaxCode;
 use sp_base::Memory;
 use std::alloc::{AllocError, AllocFailed};
+use thiserror::Error;
 
 /// Why a text gave no tree.
-#[derive(Clone, Copy, Debug, PartialEq, Eq)]
+#[derive(Clone, Copy, Debug, PartialEq, Eq, Error)]
 pub enum ParseFault {
     /// The text spells no program: its first fault, on this line, counted from 1.
+    #[error("line {line} is no program: {code:?}")]
     Syntax { line: u32, code: SyntaxCode },
+    #[error("out of memory")]
     Memory,
 }
 

@@ -1,4 +1,4 @@
-ghost use Rattle.ext_parse.specs.Laws.{FaultyTextsSpellNone, TextsHaveOneFault, TextsSpellOneProgram};
+ghost use Rattle.ext_parse.specs.Laws.{EveryTextIsJudged, FaultyTextsSpellNone, TextsHaveOneFault, TextsSpellOneProgram};
 
 /// A text spells at most one program, and its items have one line each.
 pub fn texts_spell_one_program()
@@ -13,4 +13,9 @@ pub fn texts_have_one_fault()
 /// A text that has a fault spells no program.
 pub fn faulty_texts_spell_none()
     ensures { FaultyTextsSpellNone }
+{}
+
+/// Every text spells a program or has a fault.
+pub fn every_text_is_judged()
+    ensures { EveryTextIsJudged }
 {}

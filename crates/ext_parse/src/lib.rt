@@ -17,6 +17,8 @@ mod reading;
 
 pub use ext_print::print;
 pub use fault::ParseFault;
-pub use laws::{faulty_texts_spell_none, texts_have_one_fault, texts_spell_one_program};
+pub use laws::{
+    every_text_is_judged, faulty_texts_spell_none, texts_have_one_fault, texts_spell_one_program,
+};
 pub use parsed::Parsed;
 pub use parsing::parse;

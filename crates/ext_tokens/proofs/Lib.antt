@@ -10,3 +10,5 @@ pub mod Skipped
 pub mod Readings
 pub mod Progress
 pub mod ReadingsAreOne
+pub mod Lexed
+pub mod Scans

@@ -31,7 +31,7 @@ pub record IsSoFar (text : List ℕ) (placed : List Placed) (rest : List ℕ) (l
 
 -- Each token so far is sound by itself.
 
-none-there : (before rest : List Placed) (there : Placed) → [] ≡ before ++ there ∷ rest → ⊥
+pub none-there : (before rest : List Placed) (there : Placed) → [] ≡ before ++ there ∷ rest → ⊥
 none-there [] rest there same = cc
 none-there (first ∷ before) rest there same = cc
 

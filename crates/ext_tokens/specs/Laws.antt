@@ -4,8 +4,10 @@ use Rattle.ext_mean.specs.declared.token.Placed.{Placed}
 use Rattle.ext_mean.specs.Tokens.{Tokens, IsGap, tokens_of}
 use Rattle.ext_mean.specs.Bounds.{IsTooLong, IsTooDeep}
 use Rattle.ext_mean.specs.SyntaxFaults.{HasNoToken, BreaksComment, line_behind}
+use Rattle.ext_mean.specs.Text.{EndsLine}
+use Rattle.ext_tokens.specs.declared.scan.End.{End}
 use Rattle.ext_tokens.specs.declared.scan.Scanned.{Scanned}
-use Rattle.ext_tokens.specs.Scanning.{IsScanned}
+use Rattle.ext_tokens.specs.Scanning.{HasTokens, IsScanned}
 
 -- the longer list goes on where the shorter one ends
 abbrev pub IsFront : List Placed → List Placed → Type 0
@@ -63,3 +65,8 @@ EndsAreOne =
     (text rest : List ℕ) (scanned : Scanned) (placed : List Placed) →
     IsScanned text scanned → Tokens text 1 placed rest →
     IsFront placed scanned.tokens.items ⊎ PassesFault text scanned.tokens.items placed
+
+-- every text of whole lines has its tokens, up to its end or to a fault
+abbrev pub EveryTextHasTokens : Type 0
+EveryTextHasTokens =
+    (text : List ℕ) → EndsLine text → (placed : List Placed) × (last : End) × HasTokens text placed last

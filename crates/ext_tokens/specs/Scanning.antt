@@ -42,8 +42,11 @@ IsEnd text placed rest (end.Fault line which) = IsFaulty text placed rest line w
 
 -- The text begins with the tokens, all sound by themselves, and the end says what stands behind the
 -- last one.
-pub record IsScanned (text : List ℕ) (scanned : Scanned) : Type 0 where
+pub record HasTokens (text : List ℕ) (placed : List Placed) (last : End) : Type 0 where
   pub rest : List ℕ
-  pub tokens : Tokens text 1 scanned.tokens.items rest
-  pub sound : AreShortAndShallow scanned.tokens.items
-  pub end : IsEnd text scanned.tokens.items rest scanned.end
+  pub tokens : Tokens text 1 placed rest
+  pub sound : AreShortAndShallow placed
+  pub end : IsEnd text placed rest last
+
+abbrev pub IsScanned : List ℕ → Scanned → Type 0
+IsScanned text scanned = HasTokens text scanned.tokens.items scanned.end

@@ -1,4 +1,4 @@
-ghost use Rattle.ext_tokens.specs.Laws.{EndsAreOne, NoTokenFollows, TokensAreOne, TokensJoin, TokensPart};
+ghost use Rattle.ext_tokens.specs.Laws.{EndsAreOne, EveryTextHasTokens, NoTokenFollows, TokensAreOne, TokensJoin, TokensPart};
 
 /// A text has one list of tokens: of two readings the longer goes on where the shorter ends.
 pub fn tokens_are_one()
@@ -23,4 +23,9 @@ pub fn no_token_follows()
 /// What was scanned is all that any reading has, up to a token that is too long or too deep.
 pub fn ends_are_one()
     ensures { EndsAreOne }
+{}
+
+/// Every text of whole lines has its tokens, up to its end or to a place that is faulty by itself.
+pub fn every_text_has_tokens()
+    ensures { EveryTextHasTokens }
 {}

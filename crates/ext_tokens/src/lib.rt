@@ -15,7 +15,9 @@ mod symbols;
 mod words;
 
 pub use bytes::is_plain;
-pub use laws::{ends_are_one, no_token_follows, tokens_are_one, tokens_join, tokens_part};
+pub use laws::{
+    ends_are_one, every_text_has_tokens, no_token_follows, tokens_are_one, tokens_join, tokens_part,
+};
 pub use lines::ends_line;
 pub use scan::{End, Scanned, scan_text};
 pub use words::letters;

@@ -1,4 +1,4 @@
-ghost use Rattle.std.specs.Prelude.{◌≡◌, OnOk, [], ◌∷◌};
+ghost use Rattle.std.specs.Prelude.{◌≡◌, ◌+◌, ◌^◌, OnOk, OnErr, [], ◌∷◌};
 ghost use Rattle.ext_types.specs.Progress.{after};
 
 use ext_mean::TypeCode;
@@ -16,7 +16,9 @@ pub struct Progress {
 impl Progress {
     /// Goes on behind one item.
     pub fn note(&mut self, code: Option<TypeCode>) -> Result<(), Memory>
-        ensures { OnOk result (self.new ≡ after self.old (code ∷ [])) }
+        ensures ok { OnOk result (self.new ≡ after self.old (code ∷ [])) }
+        // No memory is taken: only an item past the numbers of 32 bits is too many.
+        ensures full { OnErr result (self.old.item + 1 ≡ 2 ^ 32) }
     {
         if self.found.is_none() {
             if let Some(code) = code {

@@ -5,7 +5,9 @@ use Rattle.std.proofs.lemmas.Grind.{flat_map-append}
 use Rattle.std.proofs.lemmas.List.{append-nil}
 use Rattle.std.proofs.lemmas.Option.{MatchOption-at_none}
 use Rattle.std.proofs.lemmas.List.Elements.{All-append}
-use Rattle.framing.specs.Frames.{IsBody, frame, stream_of, IsTooLong, IsUnfinished, NotTooLong, NoFrame}
+use Rattle.sp_base.specs.Limits.{IsBody}
+use Rattle.sp_base.specs.Spelling.{frame}
+use Rattle.framing.specs.Frames.{stream_of, IsTooLong, IsUnfinished, NotTooLong, NoFrame}
 use Rattle.framing.specs.Framing.{Framing, Keeps, Stands}
 
 pub fed_more : (before after : Framing) (fed piece : List ℕ) (bodies more : List (List ℕ)) (rest : List ℕ) →

@@ -6,17 +6,21 @@ use Rattle.std.proofs.lemmas.List.{take_at, drop_at, length-append}
 use Rattle.std.proofs.lemmas.List.Concat.{flat_map-cons}
 use Rattle.std.proofs.lemmas.List.Elements.{recursion_from_All}
 use Rattle.std.proofs.lemmas.Nat.{from_be_bytes-to_be_bytes_4}
-use Rattle.framing.specs.Frames.{IsBody, frame, stream_of, announced, IsTooLong, NoFrame}
+use Rattle.sp_base.specs.Limits.{IsBody}
+use Rattle.sp_base.specs.Spelling.{u32, frame}
+use Rattle.framing.specs.Frames.{stream_of, announced, IsTooLong, NoFrame}
 use Rattle.framing.specs.Framing.{Framing, Keeps, Stands}
 
 -- a body's length in front of it, as announced
 announced_frame : (body more : List ℕ) → IsBody body → announced (frame body ++ more) ≡ length body
+unfolding u32
 announced_frame body more short =
     let lt : length body < 2 ^ 32 = omega arith in
     ap (from_be_bytes w32) (ap (take 4) (append_assoc (to_be_bytes w32 (length body)) body more) ∙ take_at (to_be_bytes w32 (length body)) (body ++ more) 4 refl)
     ∙ from_be_bytes-to_be_bytes_4 (length body) lt
 
 length_frame : (body more : List ℕ) → length (frame body ++ more) ≡ 4 + length body + length more
+unfolding u32
 length_frame body more = omega (arith, length-append (frame body) more, length-append (to_be_bytes w32 (length body)) body)
 
 -- a rest that no frame begins is no stream of frames with a first one
@@ -30,6 +34,7 @@ no_frame body more short none =
 -- two frames at the front of one stream are one
 same_frame : (body other more others : List ℕ) → IsBody body → IsBody other → frame body ++ more ≡ frame other ++ others →
     (body ≡ other) × (more ≡ others)
+unfolding u32
 same_frame body other more others short short' e =
     let n : length body ≡ length other = sym (announced_frame body more short) ∙ ap announced e ∙ announced_frame other others short' in
     let behind : body ++ more ≡ other ++ others =

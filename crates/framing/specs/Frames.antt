@@ -1,17 +1,9 @@
--- Frames on a stream: four bytes, the length of the body with its greatest byte first, and the body.
-use Rattle.std.specs.Prelude.{◌≡◌, ℕ, ◌+◌, ◌<◌, ◌≤◌, List, ◌++◌, length, take}
-use Rattle.std.specs.Int.{w32, to_be_bytes, from_be_bytes}
+-- Frames on a stream, one after the other.
+use Rattle.std.specs.Prelude.{◌≡◌, ℕ, ◌+◌, ◌<◌, ◌≤◌, List, length, take}
+use Rattle.std.specs.Int.{w32, from_be_bytes}
 use Rattle.std.specs.List.{flat_map}
-
--- the greatest length of a body, in bytes
-abbrev pub most : ℕ
-most = 8388608
-
-abbrev pub IsBody : List ℕ → Type 0
-IsBody body = length body ≤ most
-
-abbrev pub frame : List ℕ → List ℕ
-frame body = to_be_bytes w32 (length body) ++ body
+use Rattle.sp_base.specs.declared.limits.TheConstants.{MOST_FRAME}
+use Rattle.sp_base.specs.Spelling.{frame}
 
 -- the stream that these frames make, one after the other
 abbrev pub stream_of : List (List ℕ) → List ℕ
@@ -25,15 +17,15 @@ announced bytes = from_be_bytes w32 (take 4 bytes)
 pub record IsTooLong (n : ℕ) (bytes : List ℕ) : Type 0 where
   pub spelled : 4 ≤ length bytes
   pub is : announced bytes ≡ n
-  pub over : most < n
+  pub over : MOST_FRAME < n
 
 -- no whole frame stands at the front
 abbrev pub NoFrame : List ℕ → Type 0
-NoFrame bytes = 4 ≤ length bytes → announced bytes ≤ most → length bytes < 4 + announced bytes
+NoFrame bytes = 4 ≤ length bytes → announced bytes ≤ MOST_FRAME → length bytes < 4 + announced bytes
 
 -- the length at the front, if its four bytes are there, is none that is too long
 abbrev pub NotTooLong : List ℕ → Type 0
-NotTooLong bytes = 4 ≤ length bytes → announced bytes ≤ most
+NotTooLong bytes = 4 ≤ length bytes → announced bytes ≤ MOST_FRAME
 
 -- less than a whole frame
 pub record IsUnfinished (bytes : List ℕ) : Type 0 where

@@ -1,7 +1,9 @@
 -- What a framer keeps, and how it stands to the bytes that it was fed.
-use Rattle.std.specs.Prelude.{◌≡◌, ℕ, List, [], ◌++◌, Option, MatchOption}
+use Rattle.std.specs.Prelude.{◌≡◌, ℕ, List, [], ◌∷◌, ◌++◌, Option, None, MatchOption}
 use Rattle.std.specs.List.{All}
-use Rattle.framing.specs.Frames.{IsBody, stream_of, IsTooLong, IsUnfinished}
+use Rattle.sp_base.specs.Limits.{IsBody}
+use Rattle.sp_base.specs.Spelling.{frame}
+use Rattle.framing.specs.Frames.{stream_of, IsTooLong, IsUnfinished}
 
 -- a framer: the bytes of an unfinished frame, and the length that was too long, once one came
 pub record Framing : Type 0 where
@@ -32,3 +34,9 @@ MeetsTooLong framing piece n = MatchOption framing.broken
 abbrev pub OneReading : Type 0
 OneReading = (one other : Framing) (fed : List ℕ) (bodies others : List (List ℕ)) →
     Stands one fed bodies → Stands other fed others → (bodies ≡ others) × (one ≡ other)
+
+-- a body that is framed and fed between two frames is what comes out, and nothing of it is kept
+abbrev pub FramedIsGiven : Type 0
+FramedIsGiven = (before after : Framing) (fed body : List ℕ) (bodies more : List (List ℕ)) →
+    IsBody body → before ≡ record { pending = []; broken = None } → Stands before fed bodies →
+    Stands after (fed ++ frame body) (bodies ++ more) → (more ≡ body ∷ []) × (after ≡ before)

@@ -1,12 +1,11 @@
 ghost use Rattle.std.specs.Prelude.{◌≡◌, ◌+◌, ◌<◌, ◌≤◌, [], ◌++◌, length, drop, slice_index, IfOk, IfSome, IfNone, MatchOption, OnErr, vec_len};
 ghost use Rattle.std.specs.List.{All};
-ghost use Rattle.framing.specs.Frames.{IsBody, IsTooLong, NoFrame, NotTooLong, announced, frame, stream_of};
+ghost use Rattle.framing.specs.Frames.{IsTooLong, NoFrame, NotTooLong, announced, stream_of};
+ghost use Rattle.sp_base.specs.Limits.{IsBody};
+ghost use Rattle.sp_base.specs.Spelling.{frame};
 
-use sp_base::{Blob, Memory};
+use sp_base::{Blob, MOST_FRAME, Memory};
 use std::alloc::Global;
-
-/// The greatest length of a frame's body, in bytes.
-const MOST: u32 = 8_388_608;
 
 /// A byte of two slices, one behind the other.
 fn byte_of(front: &[u8], back: &[u8], i: usize) -> u8
@@ -45,16 +44,17 @@ pub fn too_long(front: &[u8], back: &[u8]) -> Option<u32>
         (λ n. IsTooLong n (front.now ++ back.now)) }
 {
     let n = length_at(front, back)?;
-    if n > MOST { Some(n) } else { None }
+    if n > MOST_FRAME { Some(n) } else { None }
 }
 
 /// The body of the whole frame at the front, and the bytes behind it.
+#[tactic(auto, unfolding(sp_base::specs::Spelling::u32))]
 fn first_frame(bytes: &[u8]) -> Option<(&[u8], &[u8])>
     ensures found { IfSome result (λ x. (bytes.now ≡ frame x.0.now ++ x.1.now) × IsBody x.0.now) }
     ensures none { IfNone result (NoFrame bytes.now) }
 {
     let n = length_at(bytes, &[])?;
-    if n > MOST || bytes.len() - 4 < n as usize {
+    if n > MOST_FRAME || bytes.len() - 4 < n as usize {
         return None;
     }
     let (_, rest) = bytes.split_at(4);
@@ -62,6 +62,7 @@ fn first_frame(bytes: &[u8]) -> Option<(&[u8], &[u8])>
 }
 
 /// The bodies of the whole frames at the front, and the bytes behind them.
+#[tactic(auto, unfolding(sp_base::specs::Spelling::u32))]
 fn cut(alloc: Global, bytes: &[u8]) -> Result<(Vec<Blob>, &[u8]), Memory>
     ensures { IfOk result (λ x. (bytes.now ≡ stream_of x.0.items ++ x.1.now)
         × All IsBody x.0.items × NoFrame x.1.now) }

@@ -1,5 +1,5 @@
 ghost use Rattle.std.specs.Prelude.{◌≡◌, ◌↔◌, ℕ, [], ◌++◌, Some, None, List, IfOk, IsErrOf, length};
-ghost use Rattle.framing.specs.Framing.{MeetsTooLong, OneReading, Stands};
+ghost use Rattle.framing.specs.Framing.{FramedIsGiven, MeetsTooLong, OneReading, Stands};
 
 use crate::cutting::{take_frames, too_long};
 use sp_base::{Blob, Memory};
@@ -110,4 +110,9 @@ impl Framer {
 /// What was fed determines the frames and what is kept, whatever the pieces were.
 pub fn one_reading()
     ensures { OneReading }
+{}
+
+/// A body that is framed and fed between two frames comes out as it is.
+pub fn framed_is_given()
+    ensures { FramedIsGiven }
 {}

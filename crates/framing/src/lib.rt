@@ -4,4 +4,4 @@
 mod cutting;
 mod framer;
 
-pub use framer::{FrameFault, Framer, one_reading};
+pub use framer::{FrameFault, Framer, framed_is_given, one_reading};

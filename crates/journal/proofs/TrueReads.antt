@@ -86,7 +86,7 @@ pub reads-extend : (journal : List Entry) (reads : List ReadItem) (rights : Righ
     → Extends (part reads rights) (whole (tables_of journal) rights)
 reads-extend journal reads rights told = record {
   rights = refl;
-  known = λ place known. known-stands journal reads place told known;
+  known = λ place readable known. known-stands journal reads place told known;
 }
 
 -- a run that ended on such reads ends alike on the tables that now stand

@@ -40,4 +40,4 @@ known-last (first ∷ reads) read none =
 
 -- the view of more reads knows all that the view of the first of them knows
 pub extends-by : (reads more : List ReadItem) (rights : List (TableId × Level)) → Extends (part reads rights) (part (reads ++ more) rights)
-extends-by reads more rights = record { rights = refl; known = known-before reads more }
+extends-by reads more rights = record { rights = refl; known = λ place readable. known-before reads more place }

@@ -1,6 +1,7 @@
 ghost use Rattle.std.specs.Prelude.{◌≡◌, ◌+◌, ◌-◌, ◌<◌, ◌≤◌, ◌^◌, ◌++◌, ℕ, List, IfOk, drop, length};
 ghost use Rattle.wire.specs.Answers.{answer, FitsAnswer, SpellsAnswer};
 ghost use Rattle.wire.specs.Requests.{FitsRequest, request, SpellsRequest};
+ghost use Rattle.sp_base.specs.Limits.{IsBody};
 ghost use Rattle.sp_base.specs.Spelling.{frame, u32};
 ghost use Rattle.wire.specs.declared.answers.Answer.{Answer};
 ghost use Rattle.wire.specs.declared.requests.Request.{Request};
@@ -36,7 +37,7 @@ fn set_length(frame: &mut Vec<u8>)
 /// The whole frame of a request, its length first.
 pub fn encode_request(alloc: Global, message: &Request) -> Result<Blob, Memory>
     requires fits { FitsRequest message.now }
-    requires short { length (request message.now) ≤ 8388608 }
+    requires short { IsBody (request message.now) }
     ensures { IfOk result (λ bytes. bytes ≡ frame (request message.now)) }
 {
     let mut out = Vec::new(alloc);
@@ -49,7 +50,7 @@ pub fn encode_request(alloc: Global, message: &Request) -> Result<Blob, Memory>
 /// The whole frame of an answer, its length first.
 pub fn encode_answer(alloc: Global, message: &Answer) -> Result<Blob, Memory>
     requires fits { FitsAnswer message.now }
-    requires short { length (answer message.now) ≤ 8388608 }
+    requires short { IsBody (answer message.now) }
     ensures { IfOk result (λ bytes. bytes ≡ frame (answer message.now)) }
 {
     let mut out = Vec::new(alloc);
@@ -62,7 +63,7 @@ pub fn encode_answer(alloc: Global, message: &Answer) -> Result<Blob, Memory>
 /// An equal request. What was encoded is decoded again.
 pub fn share_request(alloc: Global, message: &Request) -> Result<Request, Memory>
     requires fits { FitsRequest message.now }
-    requires short { length (request message.now) ≤ 8388608 }
+    requires short { IsBody (request message.now) }
     ensures { IfOk result (λ again. again ≡ message.now) }
 {
     let frame = encode_request(alloc, message)?;
@@ -77,7 +78,7 @@ pub fn share_request(alloc: Global, message: &Request) -> Result<Request, Memory
 /// An equal answer. What was encoded is decoded again.
 pub fn share_answer(alloc: Global, message: &Answer) -> Result<Answer, Memory>
     requires fits { FitsAnswer message.now }
-    requires short { length (answer message.now) ≤ 8388608 }
+    requires short { IsBody (answer message.now) }
     ensures { IfOk result (λ again. again ≡ message.now) }
 {
     let frame = encode_answer(alloc, message)?;

@@ -26,7 +26,7 @@ check_statement-returns-in_ok-check_block-in-If-clause-codes t c =
     let whole : (checked s c.args.statement.now).codes scope ≡ statement_code s scope (out-Statement c.args.statement.now) ∷ (block_codes s c.in-If.yes scope ++ block_codes s c.in-If.no scope) = rw c.in-If.is (codes-If s scope c.in-If.test c.in-If.yes c.in-If.no) in
     let own : c.statement_code-code.result ≡ statement_code s scope (out-Statement c.args.statement.now) = cc in
     let same : block_codes s c.in-If.no c.check_block.new.scope.items ≡ block_codes s c.in-If.no scope = ap (block_codes s c.in-If.no) c.in_ok-check_block-in-If.ensures.scope in
-    let e = two-blocks c.args.progress.now c.note.new.self c.check_block.new.progress _ _ _ _ _ _ c.in_ok-note.ensures c.in_ok-check_block-in-If.ensures.codes same own whole in
+    let e = two-blocks c.args.progress.now c.note.new.self c.check_block.new.progress _ _ _ _ _ _ c.in_ok-note.ensures.ok c.in_ok-check_block-in-If.ensures.codes same own whole in
     subst (λ (q : Progress). OnOk c.check_block-in-If.result (c.check_block-in-If.new.progress ≡ q)) e c.check_block-in-If.ensures.codes
 
 pub check_statement-returns-in-While-clause-codes :
@@ -37,7 +37,7 @@ check_statement-returns-in-While-clause-codes t c =
     let whole : (checked s c.args.statement.now).codes scope ≡ statement_code s scope (out-Statement c.args.statement.now) ∷ block_codes s c.in-While.body scope = rw c.in-While.is (codes-While s scope c.in-While.test c.in-While.body) in
     let own : c.statement_code-code.result ≡ statement_code s scope (out-Statement c.args.statement.now) = cc in
     let same : block_codes s c.in-While.body scope ≡ block_codes s c.in-While.body scope = refl in
-    let e = one-block c.args.progress.now c.note.new.self _ _ _ _ _ c.in_ok-note.ensures same own whole in
+    let e = one-block c.args.progress.now c.note.new.self _ _ _ _ _ c.in_ok-note.ensures.ok same own whole in
     subst (λ (q : Progress). OnOk c.check_block-in-While.result (c.check_block-in-While.new.progress ≡ q)) e c.check_block-in-While.ensures.codes
 
 pub check_statement-returns-in_ok-check_arm-in-Get-clause-codes :
@@ -51,5 +51,5 @@ check_statement-returns-in_ok-check_arm-in-Get-clause-codes t c =
     ] in
     let own : c.statement_code-code.result ≡ statement_code s scope (out-Statement c.args.statement.now) = cc in
     let same : block_codes s c.in-Get.no c.check_arm.new.scope.items ≡ block_codes s c.in-Get.no scope = ap (block_codes s c.in-Get.no) c.in_ok-check_arm-in-Get.ensures.scope in
-    let e = two-blocks c.args.progress.now c.note.new.self c.check_arm.new.progress _ _ _ _ _ _ c.in_ok-note.ensures c.in_ok-check_arm-in-Get.ensures.codes same own whole in
+    let e = two-blocks c.args.progress.now c.note.new.self c.check_arm.new.progress _ _ _ _ _ _ c.in_ok-note.ensures.ok c.in_ok-check_arm-in-Get.ensures.codes same own whole in
     subst (λ (q : Progress). OnOk c.check_block-in-Get.result (c.check_block-in-Get.new.progress ≡ q)) e c.check_block-in-Get.ensures.codes

@@ -1,6 +1,7 @@
 use Rattle.std.proofs.Common.{◌≡◌, ◌++◌, length}
 use Rattle.std.specs.List.{All}
-use Rattle.framing.specs.Frames.{IsBody, stream_of}
+use Rattle.sp_base.specs.Limits.{IsBody}
+use Rattle.framing.specs.Frames.{stream_of}
 use Rattle.framing.proofs.cutting.cut.Given as goal
 
 abbrev pub invariant-loop-body : goal.invariant-loop-body
