@@ -1,0 +1,13 @@
+-- One more queue, and at the end as many as workers.
+use Rattle.std.proofs.Common.{◌≡◌, ◌≤◌, length, ap, ◌∙◌, arith}
+use Rattle.std.proofs.lemmas.Grind.{common_steps}
+use Rattle.sim.proofs.Queueing.{one-more-worker, length-idle}
+use Rattle.sim.proofs.queues.Queues.new.Goals as goal
+
+pub loop-worker-preserved : goal.loop-worker-preserved
+loop-worker-preserved c = grind (arith, common_steps, one-more-worker c.loop-worker._worker)
+
+pub invariant_of-result : goal.invariant_of-result
+invariant_of-result c =
+    let many : length c.loop-worker.queues.items ≡ c.loop-worker._worker = ap length c.loop-worker.invariant ∙ length-idle c.loop-worker._worker in
+    omega arith
