@@ -1,7 +1,7 @@
 ghost use Rattle.std.specs.Prelude.{◌≡◌, ◌<◌, ◌≤◌, ℕ, List, length, Option, IfSome};
 ghost use Rattle.sp_outside.specs.Faults.{FaultCounted};
-ghost use Rattle.sp_outside.specs.Hearing.{Hears};
-ghost use Rattle.sp_outside.specs.Putting.{TakesWithin, Puts};
+ghost use Rattle.sp_outside.specs.Hearing.{heard_after, said_after};
+ghost use Rattle.sp_outside.specs.Putting.{TakesWithin};
 ghost use Rattle.sp_outside.specs.Taking.{ComesWithin, Takes};
 
 use crate::sink::Wrote;
@@ -27,8 +27,7 @@ pub trait Link {
         ensures within { ComesWithin result (length into.new) }
         ensures told { IfSome (left self.old) (λ bytes.
             Takes result bytes into.new (left self.new)) }
-        ensures heard { IfSome (heard self.old) (λ bytes.
-            Hears result bytes into.new (heard self.new)) }
+        ensures heard { heard self.new ≡ heard_after result into.new (heard self.old) }
         ensures same_said { said self.new ≡ said self.old }
         ensures failed { result ≡ Took.Failed →
             FaultCounted (faults self.old) (faults self.new) }
@@ -38,8 +37,7 @@ pub trait Link {
     fn put(&mut self, piece: &[u8]) -> Wrote
         requires { 0 < length piece.now }
         ensures within { TakesWithin result (length piece.now) }
-        ensures told { IfSome (said self.old) (λ bytes.
-            Puts result bytes piece.now (said self.new)) }
+        ensures said { said self.new ≡ said_after result piece.now (said self.old) }
         ensures same_left { left self.new ≡ left self.old }
         ensures same_heard { heard self.new ≡ heard self.old }
         ensures failed { result ≡ Wrote.Failed →

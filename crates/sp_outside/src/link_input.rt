@@ -11,8 +11,7 @@ use std::alloc::Global;
 /// Takes what comes to the end of a link, but no more than `most + 1` bytes.
 pub fn read_link<L: Link>(alloc: Global, link: &mut L, most: usize) -> Input
     ensures told { IfSome (L.left link.old) (λ input. Reads result most input (L.left link.new)) }
-    ensures heard { IfSome (L.heard link.old) (λ heard.
-        HearsAll result most heard (L.heard link.new)) }
+    ensures heard { HearsAll result most (L.heard link.old) (L.heard link.new) }
     ensures same_said { L.said link.new ≡ L.said link.old }
     ensures within { IsWithin result most }
     ensures failed { result ≡ Input.Failed → FaultCounted (L.faults link.old) (L.faults link.new) }
@@ -29,8 +28,7 @@ fn hear_by_pieces<L: Link>(mut bytes: Vec<u8>, link: &mut L, piece: &mut [u8], m
     requires some { 0 < length piece.old }
     requires none { bytes.items ≡ [] }
     ensures told { IfSome (L.left link.old) (λ input. Reads result most input (L.left link.new)) }
-    ensures heard { IfSome (L.heard link.old) (λ heard.
-        HearsAll result most heard (L.heard link.new)) }
+    ensures heard { HearsAll result most (L.heard link.old) (L.heard link.new) }
     ensures same_said { L.said link.new ≡ L.said link.old }
     ensures within { IsWithin result most }
     ensures failed { result ≡ Input.Failed → FaultCounted (L.faults link.old) (L.faults link.new) }

@@ -1,6 +1,6 @@
-ghost use Rattle.std.specs.Prelude.{◌≡◌, ◌≤◌, length, IfSome};
+ghost use Rattle.std.specs.Prelude.{◌≡◌, ◌≤◌, length};
 ghost use Rattle.sp_outside.specs.Faults.{FaultCounted};
-ghost use Rattle.sp_outside.specs.Writing.{Writes};
+ghost use Rattle.sp_outside.specs.Hearing.{SaysAll};
 
 use crate::link::Link;
 use crate::output::Written;
@@ -8,8 +8,7 @@ use crate::sink::Wrote;
 
 /// Puts a whole piece to a link, in as many calls as it needs. An empty piece needs none.
 pub fn write_link<L: Link>(link: &mut L, piece: &[u8]) -> Written
-    ensures told { IfSome (L.said link.old) (λ said.
-        Writes result said piece.now (L.said link.new)) }
+    ensures said { SaysAll result piece.now (L.said link.old) (L.said link.new) }
     ensures same_left { L.left link.new ≡ L.left link.old }
     ensures same_heard { L.heard link.new ≡ L.heard link.old }
     ensures failed { result ≡ Written.Failed →

@@ -1,8 +1,8 @@
 ghost use Rattle.std.specs.Prelude.{◌≡◌, ◌↔◌, ◌⊎◌, ◌<◌, ◌≤◌, ◌-◌, [], length, take, drop};
 ghost use Rattle.std.specs.Prelude.{vec_len, vec_capacity, Some, IfOk, Contains};
 ghost use Rattle.sp_outside.specs.Faults.{FaultCounted, one_call_more};
-ghost use Rattle.sp_outside.specs.Hearing.{Hears, IsUnused};
-ghost use Rattle.sp_outside.specs.Putting.{TakesWithin, Puts, TakesAllThatFits, faults_after_put};
+ghost use Rattle.sp_outside.specs.Hearing.{heard_after, said_after, IsUnused};
+ghost use Rattle.sp_outside.specs.Putting.{TakesWithin, TakesAllThatFits, faults_after_put};
 ghost use Rattle.sp_outside.specs.Taking.{ComesWithin, Takes, GivesAllThatFits, faults_after_take};
 
 use crate::link::Link;
@@ -68,8 +68,8 @@ impl Link for MemLink {
         ensures within { ComesWithin result (length into.new) }
         ensures told { Takes result (drop self.old.at self.old.bytes.items) into.new
             (Some (drop self.new.at self.new.bytes.items)) }
-        ensures heard { Hears result (take self.old.at self.old.bytes.items) into.new
-            (Some (take self.new.at self.new.bytes.items)) }
+        ensures heard { Some (take self.new.at self.new.bytes.items)
+            ≡ heard_after result into.new (Some (take self.old.at self.old.bytes.items)) }
         ensures failed { result ≡ Took.Failed → FaultCounted self.old.faults self.new.faults }
         ensures never_falls { self.old.faults ≤ self.new.faults }
 
@@ -94,7 +94,8 @@ impl Link for MemLink {
     fn put(&mut self, piece: &[u8]) -> Wrote
         requires { 0 < length piece.now }
         ensures within { TakesWithin result (length piece.now) }
-        ensures told { Puts result self.old.held.items piece.now (Some self.new.held.items) }
+        ensures said { Some self.new.held.items
+            ≡ said_after result piece.now (Some self.old.held.items) }
         ensures failed { result ≡ Wrote.Failed → FaultCounted self.old.faults self.new.faults }
         ensures never_falls { self.old.faults ≤ self.new.faults }
 

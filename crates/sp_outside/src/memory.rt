@@ -2,7 +2,7 @@
 ghost use Rattle.std.specs.Prelude.{◌≡◌, ◌≢◌, ◌↔◌, ◌<◌, ◌≤◌, ◌-◌, length, take, drop};
 ghost use Rattle.std.specs.Prelude.{vec_len, vec_capacity, IsTrue, Contains, Some, if◌then◌else◌};
 ghost use Rattle.sp_outside.specs.Faults.{one_call_more, one_fault_more};
-ghost use Rattle.sp_outside.specs.Hearing.{Hears};
+ghost use Rattle.sp_outside.specs.Hearing.{heard_after};
 ghost use Rattle.sp_outside.specs.Putting.{TakesWithin, Puts, TakesAllThatFits, faults_after_put};
 ghost use Rattle.sp_outside.specs.Taking.{ComesWithin, Takes, GivesAllThatFits};
 
@@ -29,7 +29,8 @@ pub(crate) fn give_what_fits(bytes: &[u8], at: &mut usize, into: &mut [u8]) -> T
     requires { 0 < length into.old }
     ensures within { ComesWithin result (length into.new) }
     ensures told { Takes result (drop at.old bytes.now) into.new (Some (drop at.new bytes.now)) }
-    ensures heard { Hears result (take at.old bytes.now) into.new (Some (take at.new bytes.now)) }
+    ensures heard { Some (take at.new bytes.now)
+        ≡ heard_after result into.new (Some (take at.old bytes.now)) }
     ensures all_that_fit { GivesAllThatFits result (drop at.old bytes.now) (length into.new) }
     ensures never { result ≢ Took.Failed }
 {
