@@ -9,7 +9,7 @@ option_cases None = inl refl
 option_cases (Some x) = inr (x, refl)
 
 -- further digits leave no smaller number
-grown : (text : List ℕ) (value number : ℕ) → digits_behind value text ≡ Some number → value ≤ number
+pub grown : (text : List ℕ) (value number : ℕ) → digits_behind value text ≡ Some number → value ≤ number
 grown [] value number e = let same : value ≡ number = cc in omega arith
 grown (byte ∷ text) value number e =
     elim (option_cases (digit_value byte)) [

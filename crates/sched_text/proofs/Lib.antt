@@ -1,3 +1,6 @@
+pub mod Decimals
+pub mod Hexes
+pub mod Spaces
 pub mod Coding
 pub mod Fitting
 pub mod Judging

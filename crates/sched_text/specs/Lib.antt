@@ -10,5 +10,6 @@ pub mod Tenants
 pub mod Drafts
 pub mod Fits
 pub mod Judged
+pub mod Laws
 pub mod CallLines
 pub mod CallDrafts
