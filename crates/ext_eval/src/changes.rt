@@ -15,15 +15,9 @@ use crate::steps::require;
 use crate::values::{buffer_of, with_bytes};
 use crate::world::World;
 use ext_mean::{Name, State, Value};
-use sp_base::{Blob, Change, Memory, TableId, Trap, Write, Writes};
+use sp_base::{Blob, Change, MOST_REPLY, MOST_WRITES, Memory, TableId, Trap, Write, Writes};
 use std::alloc::Global;
 use std::mem;
-
-/// The most places that one run changes.
-const MOST_PLACES: usize = 64;
-
-/// The most bytes of a reply.
-const MOST_REPLY: usize = 4096;
 
 /// Where among the changes the one of a place stands.
 fn place_of_change(writes: &[Write], table: u64, key: &[u8]) -> Option<usize>
@@ -64,7 +58,7 @@ fn write(alloc: Global, state: &mut State, new: Write) -> Result<(), Halt>
 {
     let table = u64::from(new.table.0);
     let pending = place_of_change(state.writes.as_slice(), table, new.key.bytes());
-    let room = pending.is_some() || state.writes.len() < MOST_PLACES;
+    let room = pending.is_some() || state.writes.len() < MOST_WRITES;
     require(state, room, Trap::Size)?;
     let writes = mem::replace(&mut state.writes, Writes::new(alloc)).into_vec();
     let after = changed(writes, pending, new)?;

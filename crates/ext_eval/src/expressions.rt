@@ -13,12 +13,9 @@ use crate::steps::{charge, require};
 use crate::values::{buffer_of, bytes_of, number_of, truth_of};
 use crate::world::World;
 use ext_mean::{BinOp, Buffer, Expr, State, Value};
-use sp_base::{Blob, Memory, TableId, Trap};
+use sp_base::{Blob, MOST_VALUE, Memory, TableId, Trap};
 use sqlite_items::Boxed;
 use std::alloc::Global;
-
-/// The most bytes of a buffer.
-const MOST_BUFFER: u64 = 4096;
 
 /// `byte(bytes, place)`
 fn byte_at(state: &mut State, bytes: &[u8], place: u64) -> Result<Value, Halt>
@@ -62,7 +59,7 @@ fn zeros(alloc: Global, size: usize) -> Result<Blob, Memory>
 fn new_temp(world: &World, state: &mut State, size: u64) -> Result<Value, Halt>
     ensures { Gives result state.new (new_temp (world_of world.now) size state.old) }
 {
-    require(state, size <= MOST_BUFFER, Trap::Size)?;
+    require(state, size <= MOST_VALUE as u64, Trap::Size)?;
     charge(world, state, size as u32 / 16)?;
     let bytes = zeros(world.alloc, size as usize)?;
     Ok(Value::Temp(bytes))
@@ -78,7 +75,7 @@ fn new_buffer(
 ) -> Result<Value, Halt>
     ensures { Gives result state.new (new_buffer (world_of world.now) table key.now size state.old) }
 {
-    require(state, is_key(key) && size <= MOST_BUFFER, Trap::Size)?;
+    require(state, is_key(key) && size <= MOST_VALUE as u64, Trap::Size)?;
     require(state, can_write(world.rights, table), Trap::Denied)?;
     charge(world, state, size as u32 / 16)?;
     let key = key_of(world.alloc, key)?;

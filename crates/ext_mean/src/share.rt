@@ -7,6 +7,13 @@ use sp_base::Memory;
 use sqlite_items::{Boxed, Items};
 use std::alloc::Global;
 
+/// A statement of this form whose fields are equal to these, besides those that are given.
+macro_rules! equal {
+    ($form:ident in $alloc:ident: $($field:ident),* $(; $($own:ident: $value:expr),*)?) => {
+        Ok(Statement::$form { $($field: $field.share($alloc)?,)* $($($own: $value,)*)? })
+    };
+}
+
 impl Program {
     /// An equal tree.
     pub fn share(&self, alloc: Global) -> Result<Program, Memory>
@@ -73,48 +80,24 @@ impl Statement {
         ensures { IfOk result (λ statement. statement ≡ self.now) }
     {
         match self {
-            Statement::Let { name, kind, value } => Ok(Statement::Let {
-                name: name.share(alloc)?,
-                kind: *kind,
-                value: value.share(alloc)?,
-            }),
+            Statement::Let { name, kind, value } => equal!(Let in alloc: name, value; kind: *kind),
             Statement::LetCall {
                 name,
                 kind,
                 function,
                 args,
-            } => Ok(Statement::LetCall {
-                name: name.share(alloc)?,
-                kind: *kind,
-                function: function.share(alloc)?,
-                args: share_all(alloc, args)?,
-            }),
-            Statement::Assign { name, value } => Ok(Statement::Assign {
-                name: name.share(alloc)?,
-                value: value.share(alloc)?,
-            }),
-            Statement::If { test, yes, no } => Ok(Statement::If {
-                test: test.share(alloc)?,
-                yes: yes.share(alloc)?,
-                no: no.share(alloc)?,
-            }),
-            Statement::While { test, body } => Ok(Statement::While {
-                test: test.share(alloc)?,
-                body: body.share(alloc)?,
-            }),
+            } =>
+                equal!(LetCall in alloc: name, function; kind: *kind, args: share_all(alloc, args)?),
+            Statement::Assign { name, value } => equal!(Assign in alloc: name, value),
+            Statement::If { test, yes, no } => equal!(If in alloc: test, yes, no),
+            Statement::While { test, body } => equal!(While in alloc: test, body),
             Statement::Get {
                 table,
                 key,
                 some,
                 yes,
                 no,
-            } => Ok(Statement::Get {
-                table: table.share(alloc)?,
-                key: key.share(alloc)?,
-                some: some.share(alloc)?,
-                yes: yes.share(alloc)?,
-                no: no.share(alloc)?,
-            }),
+            } => equal!(Get in alloc: table, key, some, yes, no),
             Statement::Multi {
                 table,
                 keys,
@@ -122,46 +105,18 @@ impl Statement {
                 some,
                 yes,
                 no,
-            } => Ok(Statement::Multi {
-                table: table.share(alloc)?,
-                keys: keys.share(alloc)?,
-                width: width.share(alloc)?,
-                some: some.share(alloc)?,
-                yes: yes.share(alloc)?,
-                no: no.share(alloc)?,
-            }),
-            Statement::Set { name, place, value } => Ok(Statement::Set {
-                name: name.share(alloc)?,
-                place: place.share(alloc)?,
-                value: value.share(alloc)?,
-            }),
-            Statement::Set8 { name, place, value } => Ok(Statement::Set8 {
-                name: name.share(alloc)?,
-                place: place.share(alloc)?,
-                value: value.share(alloc)?,
-            }),
+            } => equal!(Multi in alloc: table, keys, width, some, yes, no),
+            Statement::Set { name, place, value } => equal!(Set in alloc: name, place, value),
+            Statement::Set8 { name, place, value } => equal!(Set8 in alloc: name, place, value),
             Statement::Copy {
                 name,
                 place,
                 source,
-            } => Ok(Statement::Copy {
-                name: name.share(alloc)?,
-                place: place.share(alloc)?,
-                source: source.share(alloc)?,
-            }),
-            Statement::Put { name } => Ok(Statement::Put {
-                name: name.share(alloc)?,
-            }),
-            Statement::Del { table, key } => Ok(Statement::Del {
-                table: table.share(alloc)?,
-                key: key.share(alloc)?,
-            }),
-            Statement::Resp { value } => Ok(Statement::Resp {
-                value: value.share(alloc)?,
-            }),
-            Statement::Return { value } => Ok(Statement::Return {
-                value: value.share(alloc)?,
-            }),
+            } => equal!(Copy in alloc: name, place, source),
+            Statement::Put { name } => equal!(Put in alloc: name),
+            Statement::Del { table, key } => equal!(Del in alloc: table, key),
+            Statement::Resp { value } => equal!(Resp in alloc: value),
+            Statement::Return { value } => equal!(Return in alloc: value),
         }
     }
 }

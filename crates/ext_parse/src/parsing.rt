@@ -11,10 +11,8 @@ use crate::parsed::Parsed;
 use crate::reading::read_program;
 use ext_mean::SyntaxCode;
 use ext_tokens::{ends_line, scan_text};
+use sp_base::MOST_TEXT;
 use std::alloc::Global;
-
-/// The greatest length of a text, in bytes.
-const MOST_TEXT: usize = 16_384;
 
 /// The program that a text spells, with the line of each item, or the text's first fault.
 pub fn parse(alloc: Global, text: &[u8]) -> Result<Parsed, ParseFault>
@@ -74,7 +72,7 @@ fn fault(line: u32, code: SyntaxCode) -> ParseFault
 
 /// The newlines of a text.
 fn newlines(text: &[u8]) -> u32
-    requires { length text.now ≤ 16384 }
+    requires { length text.now ≤ most_text }
     ensures count { result ≡ spelling.newlines text.now }
     ensures few { result ≤ length text.now }
 {
