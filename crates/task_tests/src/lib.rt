@@ -1,0 +1,10 @@
+//! Tests of read lists and tasks: worked extensions cut into turns of every size, and each call with
+//! ample memory. They stand above the crates that they test, so that no crate is proved twice.
+#![tactic(auto)]
+
+pub mod cases;
+#[cfg(test)]
+mod read_sets;
+#[cfg(test)]
+mod tests;
+pub mod turns;
