@@ -3,3 +3,4 @@ pub mod Unmoved
 pub mod Soundness
 pub mod Verdicts
 pub mod Standing
+pub mod Indexing

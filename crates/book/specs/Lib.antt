@@ -1,4 +1,5 @@
 pub mod Verdict
 pub mod Standing
 pub mod Laws
-pub mod Scan
+pub mod Indexes
+pub mod Changes

@@ -7,6 +7,7 @@ use Rattle.sp_base.specs.declared.numbers.TableId.{TableId}
 use Rattle.sp_base.specs.declared.outcomes.Outcome.{Outcome}
 use Rattle.sp_base.specs.declared.reads.ReadItem.{ReadItem}
 use Rattle.sp_base.specs.declared.writes.Write.{Write}
+use Rattle.sp_base.specs.Spelling.{FitsOpt}
 use Rattle.sp_base.specs.RightsList.{can_read, can_write}
 use Rattle.ext_mean.specs.Views.{place_of}
 use Rattle.book.specs.declared.answers.Commit.{Commit}
@@ -124,3 +125,8 @@ InstallTakesMemory _ = ⊥
 abbrev pub CommitTakesMemory : Commit → Type 0
 CommitTakesMemory (Committed n outcome) = Unit {0}
 CommitTakesMemory _ = ⊥
+
+-- a value that was found is within the limit of values
+abbrev pub FoundFits : Read → Type 0
+FoundFits (read.Found item) = FitsOpt item.value
+FoundFits _ = Unit {0}

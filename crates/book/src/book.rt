@@ -1,56 +1,64 @@
-ghost use Rattle.std.specs.Prelude.{◌≡◌, ◌≤◌, ◌+◌, ◌<◌, ◌⊎◌, ◌↔◌, IsTrue, IfOk, OnOk, OnErr, List, [], None, length, map};
+ghost use Rattle.std.specs.Prelude.{◌≡◌, ◌≤◌, ◌+◌, ◌<◌, ◌⊎◌, ◌↔◌, IsTrue, IfOk, IfSome, IfNone, OnOk, OnErr, List, [], None, length, slice_get};
 ghost use Rattle.std.specs.Arc.{arc_value};
-ghost use Rattle.std.specs.List.{AllByRecursion};
-ghost use Rattle.sp_base.specs.Limits.{IsArguments, IsValue};
+ghost use Rattle.std.specs.Option.{option_map};
+ghost use Rattle.sp_base.specs.Limits.{IsArguments, IsText, IsValue};
 ghost use Rattle.ext_mean.specs.Views.{place_of};
-ghost use Rattle.records.specs.GrantsList.{rights_of};
+ghost use Rattle.records.specs.Records.{place_at};
 ghost use Rattle.journal.specs.declared.entry.Entry.{Entry};
 ghost use Rattle.journal.specs.Folds.{texts_of, last_of, version_of};
 ghost use Rattle.journal.specs.Granted.{granted};
-ghost use Rattle.journal.specs.Legal.{Names};
-ghost use Rattle.journal.specs.Reads.{IsHeld, bare};
-ghost use Rattle.journal.specs.Sizes.{size_of_entry};
+ghost use Rattle.journal.specs.Reads.{bare};
+ghost use Rattle.journal.specs.Sizes.{EntryFits};
+ghost use Rattle.book.specs.Indexes.{HasExt, text_of};
 ghost use Rattle.book.specs.Standing.{IsSound, KeepsFixed, RanOn, StandsFor};
-ghost use Rattle.book.specs.Verdict.{grown, is_full_for, item_at, entry_of, moved, verdict, verdict_on, after_commit, put_answer, after_put, install_answer, after_install, read_answer, CommitTakesMemory, InstallTakesMemory, PutTakesMemory, ReadTakesMemory};
+ghost use Rattle.book.specs.Verdict.{FoundFits, grown, is_full, is_full_for, item_at, entry_of, moved, verdict, verdict_on, after_commit, put_answer, after_put, install_answer, after_install, read_answer, CommitTakesMemory, InstallTakesMemory, PutTakesMemory, ReadTakesMemory};
 
 use crate::answers::{Commit, Install, Put, Read};
-use crate::ext::Ext;
-use crate::finished::Finished;
-use crate::found::record_at;
-use crate::scan::{bare_reads, first_moved, last_number, nth_read, text_count};
-use journal::{Entry, Home, entry_size};
-use records::Grants;
+use crate::changes::{changes_of, make_all};
+use crate::exts::{Exts, sized_text};
+use crate::lasts::Lasts;
+use crate::notes::note;
+use crate::reads::{kept_reads, nth_read};
+use journal::{Entry, Home, Journal, entry_size, install_size};
+use records::{Grants, Tables};
+use rw_set::Finished;
 use sp_base::{
     Blob, Caller, ExtNo, Key, Level, MOST_ENTRIES, MOST_JOURNAL, Memory, ReadItem, Rights, TableId,
     TenantId,
 };
 use std::alloc::Global;
 use std::marker::Model;
+use std::sync::Arc;
+use task::Ext;
 
 /// The journal, with the grants under which it grows. Contracts see the grants, the most entries,
 /// whether clients' calls are audited, and the journal; layers above speak of the journal by
 /// `StandsFor` alone.
-#[derive(Debug, Drop)]
+#[derive(Drop)]
 pub struct Book {
     alloc: Global,
     grants: Grants,
-    limit: u64,
     audit: bool,
-    entries: Vec<Entry>,
-    size: u64,
+    journal: Journal,
+    /// What the journal leaves at each place.
+    tables: Tables,
+    /// What each tenant has installed.
+    exts: Exts,
+    /// The number of each caller's last committed call.
+    lasts: Lasts,
 }
 
 impl Model for Book {
-    ghost use Rattle.std.specs.Prelude.{◌≡◌};
-    ghost use Rattle.journal.specs.Sizes.{size_of};
+    ghost use Rattle.book.specs.Indexes.{AreIndexes};
     ghost use Rattle.book.specs.Standing.{BookValue, IsSound};
 
     ghost Value = { BookValue };
 
-    ghost view = { λ b. record { grants = b.grants; limit = b.limit; audit = b.audit; journal = b.entries.items } };
+    ghost view = { λ b. record { grants = b.grants; limit = b.journal.limit; audit = b.audit; journal = b.journal.entries } };
 
     ghost invariant = { λ b.
-        IsSound b.grants b.limit b.audit b.entries.items × (b.size ≡ size_of b.entries.items) };
+        IsSound b.grants b.journal.limit b.audit b.journal.entries
+        × AreIndexes b.journal.entries b.tables b.exts b.lasts };
 }
 
 impl Book {
@@ -67,10 +75,11 @@ impl Book {
         Book {
             alloc,
             grants,
-            limit,
             audit,
-            entries: Vec::new(alloc),
-            size: 0,
+            journal: Journal::new(alloc, limit),
+            tables: Tables::new(alloc),
+            exts: Exts::new(alloc),
+            lasts: Lasts::new(alloc),
         }
     }
 
@@ -78,34 +87,51 @@ impl Book {
     pub fn len(&self) -> u64
         ensures { (journal : List Entry) → StandsFor self.now journal → result ≡ length journal }
     {
-        self.entries.len() as u64
+        self.journal.len()
     }
 
     pub fn is_empty(&self) -> bool
         ensures { (journal : List Entry) → StandsFor self.now journal → IsTrue result ↔ (length journal ≡ 0) }
     {
-        self.entries.is_empty()
+        self.journal.is_empty()
     }
 
     /// The journal, from entry 0 on.
-    pub fn journal(&self) -> &[Entry]
-        ensures { StandsFor self.now result.now }
+    pub fn journal(&self) -> &Journal
+        ensures { StandsFor self.now result.now.entries }
     {
-        self.entries.as_slice()
+        &self.journal
     }
 
     /// The number of a caller's last committed call, or 0.
     pub fn last(&self, caller: Caller) -> u64
         ensures { (journal : List Entry) → StandsFor self.now journal → result ≡ last_of journal caller }
     {
-        last_number(self.entries.as_slice(), caller)
+        self.lasts.get(caller)
     }
 
     /// How many extensions a tenant has installed.
     pub fn ext_count(&self, tenant: TenantId) -> u32
         ensures { (journal : List Entry) → StandsFor self.now journal → result ≡ length (texts_of journal tenant) }
     {
-        text_count(self.entries.as_slice(), tenant) as u32
+        self.count(tenant)
+    }
+
+    fn count(&self, tenant: TenantId) -> u32
+        ensures { result ≡ length (texts_of self.now.journal tenant) }
+    {
+        self.exts.count(tenant) as u32
+    }
+
+    /// A tenant's extension with this number, where there is one.
+    pub fn ext(&self, tenant: TenantId, ext: ExtNo) -> Result<Option<Arc<Ext>>, Memory>
+        ensures { (journal : List Entry) → StandsFor self.now journal
+            → IfOk result (λ found. option_map text_of found ≡ slice_get (texts_of journal tenant) ext.0) }
+    {
+        match self.exts.get(tenant, ext) {
+            Some(ext) => Ok(Some(Arc::try_clone(ext)?)),
+            None => Ok(None),
+        }
     }
 
     /// A tenant's rights: none for an unknown tenant.
@@ -120,6 +146,8 @@ impl Book {
     pub fn read(&self, tenant: TenantId, table: TableId, key: &Key) -> Read
         ensures answer { (journal : List Entry) → StandsFor self.now journal
             → (result ≡ Read.Memory) ⊎ (result ≡ read_answer self.now.grants journal tenant table key.now) }
+        // A value that is found is within the limit of values.
+        ensures fits { FoundFits result }
         // A refusal comes before want of memory.
         ensures memory { (journal : List Entry) → StandsFor self.now journal
             → result ≡ Read.Memory → ReadTakesMemory (read_answer self.now.grants journal tenant table key.now) }
@@ -136,17 +164,16 @@ impl Book {
     fn found(&self, table: TableId, key: &Key) -> Result<ReadItem, Memory>
         ensures { IfOk result (λ item. item ≡ item_at self.now.journal table key.now) }
     {
-        let found = record_at(self.entries.as_slice(), table, key);
-        let value = match found.value {
-            None => None,
-            Some(value) => Some(value.share(self.alloc)?),
+        let (version, value) = match self.tables.look(table, key) {
+            Some((version, value)) => (version, Some(value.share(self.alloc)?)),
+            None => (0, None),
         };
         let key = key.share(self.alloc)?;
         Ok(ReadItem {
             table,
             key,
-            version: found.version,
-            read_at: self.entries.len() as u64,
+            version,
+            read_at: self.journal.len(),
             value,
         })
     }
@@ -155,18 +182,54 @@ impl Book {
         requires { size ≤ 10000000 }
         ensures { result ≡ is_full_for self.now.limit self.now.journal size }
     {
-        self.limit <= self.entries.len() as u64 || MOST_JOURNAL < self.size + size
+        self.journal.limit() <= self.journal.len() || MOST_JOURNAL < self.journal.size() + size
     }
 
-    fn append(&mut self, entry: Entry, size: u64) -> Result<(), Memory>
+    /// Whether there is no room for the installation of an extension.
+    fn is_full_of(&self, tenant: TenantId, ext: &Ext) -> bool
+        ensures full { result ≡ is_full self.now.limit self.now.journal (Entry.Install tenant ext.now.text) }
+        ensures sized { IsText ext.now.text }
+    {
+        self.is_full(install_size(sized_text(ext)))
+    }
+
+    /// The version of a place: 0 where it is absent.
+    fn version(&self, table: TableId, key: &Key) -> u64
+        ensures { result ≡ version_of self.now.journal (place_at table key.now) }
+    {
+        self.tables.version(table, key)
+    }
+
+    /// The index of the first read whose version has moved.
+    fn first_moved(&self, reads: &[ReadItem]) -> Option<usize>
+        ensures found { IfSome result (λ index. slice_get reads.now index ≡ moved self.now.journal reads.now) }
+        ensures within { IfSome result (λ index. index < length reads.now) }
+        ensures none { IfNone result (moved self.now.journal reads.now ≡ None) }
+    {
+        for (index, read) in reads.iter().enumerate() {
+            if self.version(read.table, &read.key) != read.version {
+                return Some(index);
+            }
+        }
+        None
+    }
+
+    /// Appends an entry, an installation with its extension. All memory is taken before anything
+    /// changes, and without memory nothing does.
+    fn append(&mut self, entry: Entry, ext: Option<Arc<Ext>>) -> Result<(), Memory>
         requires sound { IsSound self.old.grants self.old.limit self.old.audit (grown self.old.journal entry) }
-        requires size { size ≡ size_of_entry entry }
+        requires fits { EntryFits entry }
+        requires ext { HasExt entry ext }
         ensures ok { OnOk result (self.new ≡ record self.old { journal = grown self.old.journal entry }) }
         ensures stands { OnOk result (StandsFor self.new (grown self.old.journal entry)) }
         ensures err { OnErr result (self.new ≡ self.old) }
     {
-        self.entries.push(entry)?;
-        self.size += size;
+        let changes = changes_of(self.alloc, &entry)?;
+        self.tables.reserve(changes.len() as u32)?;
+        self.journal.reserve()?;
+        note(&mut self.exts, &mut self.lasts, &entry, ext)?;
+        make_all(&mut self.tables, self.journal.len(), changes);
+        self.journal.push_reserved(entry);
         Ok(())
     }
 
@@ -186,7 +249,7 @@ impl Book {
         if self.grants.level(tenant, table) != Level::Write {
             return Put::Denied;
         }
-        let n = self.journal().len() as u64;
+        let n = self.journal().len();
         let entry = Entry::Put {
             tenant,
             table,
@@ -197,7 +260,7 @@ impl Book {
         if self.is_full(size) {
             return Put::Full { at: n };
         }
-        match self.append(entry, size) {
+        match self.append(entry, None) {
             Ok(()) => Put::Done(n),
             Err(Memory) => Put::Memory,
         }
@@ -215,18 +278,28 @@ impl Book {
         ensures memory { (journal : List Entry) → StandsFor self.old journal → result ≡ Install.Memory
             → InstallTakesMemory (install_answer self.old.limit journal tenant (Entry.Install tenant ext.text)) }
     {
-        let n = self.journal().len() as u64;
-        let number = ExtNo(text_count(self.entries.as_slice(), tenant) as u32);
-        let Ext { text, .. } = ext;
-        let entry = Entry::Install { tenant, text };
-        let size = entry_size(&entry);
-        if self.is_full(size) {
+        let n = self.journal().len();
+        let number = ExtNo(self.count(tenant));
+        if self.is_full_of(tenant, &ext) {
             return Install::Full { at: n };
         }
-        match self.append(entry, size) {
+        match self.add_ext(tenant, ext) {
             Ok(()) => Install::Installed { n, ext: number },
             Err(Memory) => Install::Memory,
         }
+    }
+
+    /// Appends an installation, whose text is shared by the entry and the extension.
+    fn add_ext(&mut self, tenant: TenantId, ext: Ext) -> Result<(), Memory>
+        requires sound { IsSound self.old.grants self.old.limit self.old.audit (grown self.old.journal (Entry.Install tenant ext.text)) }
+        requires sized { IsText ext.text }
+        ensures ok { OnOk result (self.new ≡ record self.old { journal = grown self.old.journal (Entry.Install tenant ext.text) }) }
+        ensures stands { OnOk result (StandsFor self.new (grown self.old.journal (Entry.Install tenant ext.text))) }
+        ensures err { OnErr result (self.new ≡ self.old) }
+    {
+        let text = Blob::of(self.alloc, ext.text())?;
+        let ext = Arc::new(self.alloc, ext)?;
+        self.append(Entry::Install { tenant, text }, Some(ext))
     }
 
     /// Commits a finished run: its entry is then the journal's last. All memory is taken before the
@@ -246,16 +319,16 @@ impl Book {
             → CommitTakesMemory (verdict self.old.limit journal done.call
             (entry_of done.call done.outcome done.writes done.reads) done.outcome done.reads) }
     {
-        let last = last_number(self.entries.as_slice(), done.call.caller);
+        let last = self.lasts.get(done.call.caller);
         if done.call.number.0 <= last {
             return Commit::Stale {
                 last,
-                at: self.entries.len() as u64,
+                at: self.journal.len(),
             };
         }
-        if let Some(index) = first_moved(self.entries.as_slice(), done.reads.as_slice()) {
+        if let Some(index) = self.first_moved(done.reads.items()) {
             let Finished { reads, .. } = done;
-            return self.conflict(nth_read(reads, index));
+            return self.conflict(nth_read(reads.into_reads(), index));
         }
         self.settle(done)
     }
@@ -264,14 +337,14 @@ impl Book {
         ensures { result ≡ Commit.Conflict moved.table moved.key moved.version moved.read_at
             (version_of self.now.journal (place_of moved)) (length self.now.journal) }
     {
-        let now = record_at(self.entries.as_slice(), moved.table, &moved.key).version;
+        let now = self.version(moved.table, &moved.key);
         Commit::Conflict {
             table: moved.table,
             read: moved.version,
             read_at: moved.read_at,
             key: moved.key,
             now,
-            now_at: self.entries.len() as u64,
+            now_at: self.journal.len(),
         }
     }
 
@@ -292,7 +365,7 @@ impl Book {
         ensures memory { result ≡ Commit.Memory → CommitTakesMemory (verdict_on self.old.limit self.old.journal
             (entry_of done.call done.outcome done.writes done.reads) done.outcome None) }
     {
-        let n = self.journal().len() as u64;
+        let n = self.journal().len();
         let Finished {
             call,
             reads,
@@ -305,7 +378,7 @@ impl Book {
             call,
             outcome,
             writes,
-            reads: bare_reads(reads),
+            reads: kept_reads(reads),
             home: Home::Server,
         };
         let size = entry_size(&entry);
@@ -315,7 +388,7 @@ impl Book {
         let Ok(outcome) = shown else {
             return Commit::Memory;
         };
-        match self.append(entry, size) {
+        match self.append(entry, None) {
             Ok(()) => Commit::Committed { n, outcome },
             Err(Memory) => Commit::Memory,
         }

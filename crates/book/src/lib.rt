@@ -1,24 +1,22 @@
 //! The book: one journal of what was put, installed and committed, and every answer that depends on
 //! what came before.
 //!
-//! The book keeps its journal as a list and works all else out of it: what stands at a place, a
-//! tenant's extensions, a caller's last call. `specs/Folds.antt` says what each of these is.
+//! Beside its journal the book keeps what the journal leaves: the tables, each tenant's extensions and
+//! each caller's last call. Its type keeps these equal to the journal's, so no call walks the journal.
 #![tactic(auto)]
 
 mod answers;
 mod book;
-mod ext;
-mod finished;
-mod found;
+mod changes;
+mod exts;
+mod lasts;
 mod laws;
-mod scan;
+mod notes;
+mod reads;
 
 pub use answers::{Commit, Install, Put, Read};
 pub use book::Book;
-pub use ext::Ext;
-pub use finished::Finished;
 pub use laws::{audited_is_legal, conflicts_name_moved_reads, legal_killed_are_spent};
-pub use scan::text_count;
 
 #[cfg(test)]
 mod tests;

@@ -3,3 +3,5 @@ pub mod Moments
 pub mod TrueReads
 pub mod Committing
 pub mod Growing
+pub mod Behind
+pub mod Fitting

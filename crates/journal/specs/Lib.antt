@@ -4,3 +4,4 @@ pub mod Sizes
 pub mod Reads
 pub mod Legal
 pub mod VersionLaws
+pub mod Journals

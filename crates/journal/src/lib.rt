@@ -5,9 +5,11 @@
 #![tactic(auto)]
 
 mod entry;
+mod journal;
 mod laws;
 mod size;
 
 pub use entry::{Entry, Home};
+pub use journal::Journal;
 pub use laws::versions_keep_their_values;
-pub use size::entry_size;
+pub use size::{entry_size, install_size};

@@ -1,10 +1,11 @@
 ghost use Rattle.std.specs.Prelude.{◌≡◌, ◌≤◌, ◌+◌, ◌*◌, length, sum_by};
+ghost use Rattle.sp_base.specs.declared.numbers.TenantId.{TenantId};
 ghost use Rattle.std.specs.List.{AllByRecursion};
 ghost use Rattle.ext_mean.specs.Outcomes.{ReplyFits, ChangeFits};
 ghost use Rattle.journal.specs.Sizes.{size_of_entry, write_size, read_size, outcome_size, EntryFits};
 
 use crate::entry::Entry;
-use sp_base::{Change, Outcome, ReadItem, Write};
+use sp_base::{Change, MOST_TEXT, Outcome, ReadItem, Write};
 
 fn outcome_bytes(outcome: &Outcome) -> u64
     requires { ReplyFits outcome.now }
@@ -55,6 +56,15 @@ fn reads_bytes(reads: &[ReadItem]) -> u64
     total
 }
 
+/// The bytes of the entry of an installation.
+pub fn install_size(text: &[u8]) -> u64
+    requires { length text.now ≤ MOST_TEXT }
+    ensures size { (tenant : TenantId) → result ≡ size_of_entry (Entry.Install tenant text.now) }
+    ensures small { result ≤ 10000000 }
+{
+    7 + text.len() as u64
+}
+
 /// The bytes of an entry, counted as the journal counts them.
 pub fn entry_size(entry: &Entry) -> u64
     requires { EntryFits entry.now }
@@ -73,6 +83,6 @@ pub fn entry_size(entry: &Entry) -> u64
             bytes + writes_bytes(writes.as_slice()) + reads_bytes(reads.as_slice())
         }
         Entry::Put { key, value, .. } => 12 + key.bytes().len() as u64 + value.len() as u64,
-        Entry::Install { text, .. } => 7 + text.len() as u64,
+        Entry::Install { text, .. } => install_size(text.bytes()),
     }
 }

@@ -9,7 +9,7 @@ ghost use Rattle.rw_set.specs.Weight.{weight_of};
 use crate::MOST_READS;
 use crate::search::{find, place_for};
 use crate::weight::read_weight;
-use sp_base::{Key, Memory, ReadItem, TableId};
+use sp_base::{Key, Memory, ReadItem, Reads, TableId};
 use std::alloc::Global;
 use std::marker::Model;
 
@@ -82,6 +82,14 @@ impl ReadSet {
         ensures { option_copied result ≡ read_of self.now (place_in table key.now) }
     {
         find(self.items.as_slice(), self.order.as_slice(), table, key)
+    }
+
+    /// The reads as a list of their own, which needs no memory.
+    pub fn into_reads(self) -> Reads
+        ensures { result ≡ self }
+    {
+        let ReadSet { items, .. } = self;
+        Reads::from_vec(items)
     }
 
     /// The reads, in order.

@@ -4,6 +4,6 @@ use Rattle.book.proofs.Growing.{sound-grown}
 use Rattle.book.proofs.Standing.{own-sound}
 use Rattle.book.proofs.book.Book.install.Goals as goal
 
-pub append-requires-clause-sound : goal.append-requires-clause-sound
-append-requires-clause-sound c =
-    sound-grown _ _ _ _ _ (own-sound c.journal.ensures) (search rules) c.args.ext.sized tt tt tt
+pub add_ext-requires-clause-sound : goal.add_ext-requires-clause-sound
+add_ext-requires-clause-sound c =
+    sound-grown _ _ _ _ _ (own-sound c.journal.ensures) (search rules) c.is_full_of.ensures.sized tt tt tt

@@ -9,9 +9,9 @@ use Rattle.book.proofs.book.Book.settle.Goals as goal
 
 pub entry_size-size-requires : goal.entry_size-size-requires
 entry_size-size-requires c =
-    rw c.bare_reads.ensures
+    rw c.kept_reads.ensures.bare
     (run-fits (arc_value c.args.done.program) c.args.done.call.args c.args.done.call.budget c.args.done.reads c.args.done.rights
-    c.args.done.outcome c.args.done.writes c.requires.arguments c.args.done.few c.args.done.meant)
+    c.args.done.outcome c.args.done.writes c.requires.arguments c.kept_reads.ensures.few c.args.done.meant)
 
 pub append-requires-clause-sound : goal.append-requires-clause-sound
 append-requires-clause-sound c =
@@ -20,13 +20,19 @@ append-requires-clause-sound c =
     let ran = c.requires.ran in
     let current = unmoved-current book.journal done.reads c.requires.still in
     sound-grown _ _ _ _ _ (own-sound c.journal.ensures) (search rules)
-    (rw c.bare_reads.ensures
+    (rw c.kept_reads.ensures.bare
     (run-fits (arc_value done.program) done.call.args done.call.budget done.reads done.rights done.outcome done.writes
-    c.requires.arguments done.few done.meant))
-    (rw c.bare_reads.ensures
+    c.requires.arguments c.kept_reads.ensures.few done.meant))
+    (rw c.kept_reads.ensures.bare
     (run-legal book.grants book.journal done.call (arc_value done.program) done.reads done.rights done.outcome done.writes
     ran.own ran.named ran.held current done.asked done.complete done.meant))
     c.requires.in_order
-    (rw c.bare_reads.ensures
+    (rw c.kept_reads.ensures.bare
     (run-within book.grants book.journal done.call (arc_value done.program) done.reads done.rights done.outcome done.writes
     ran.own done.asked done.meant))
+
+pub append-requires-clause-fits : goal.append-requires-clause-fits
+append-requires-clause-fits c =
+    rw c.kept_reads.ensures.bare
+    (run-fits (arc_value c.args.done.program) c.args.done.call.args c.args.done.call.budget c.args.done.reads c.args.done.rights
+    c.args.done.outcome c.args.done.writes c.requires.arguments c.kept_reads.ensures.few c.args.done.meant)

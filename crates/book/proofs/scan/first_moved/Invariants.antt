@@ -1,7 +1,0 @@
--- The first moved read of what is left is the first of all.
-use Rattle.std.proofs.Common.{◌≡◌, drop}
-use Rattle.book.specs.Verdict.{moved}
-use Rattle.book.proofs.scan.first_moved.Given as goal
-
-abbrev pub invariant-loop-index : goal.invariant-loop-index
-invariant-loop-index l = moved l.entries (drop l.index l.reads) ≡ moved l.entries l.fn.reads
