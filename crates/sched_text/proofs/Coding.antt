@@ -12,7 +12,8 @@ use Rattle.sched_text.specs.declared.line.ScriptLine.{ScriptLine}
 use Rattle.sched_text.specs.declared.line.ScriptLine.TheVariants.{Tenant, Table, Policy, Limit, Workers, Ext, Body}
 use Rattle.sched_text.specs.Drafts.{is_late, is_repeated, lacks_tenant, lacks_worker, lacks_text, is_too_many, is_not_yet, first_code, code_of, lines_taken}
 use Rattle.sched_text.specs.Fits.{LineFits}
-use Rattle.sched_text.specs.Tenants.{rights_of, has_table}
+use Rattle.records.specs.GrantsList.{rights_of}
+use Rattle.sched_text.specs.Tenants.{has_table}
 use Rattle.sched_text.specs.Texts.{has_lines}
 
 -- none of the tests is passed

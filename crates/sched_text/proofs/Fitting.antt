@@ -12,7 +12,8 @@ use Rattle.sched_text.specs.declared.line.ScriptLine.{ScriptLine}
 use Rattle.sched_text.specs.declared.line.ScriptLine.TheVariants.{Tenant, Table, Policy, Limit, Workers, Ext, Body}
 use Rattle.sched_text.specs.Drafts.{has_workers, workers_of, code_of, with_line, no_lines}
 use Rattle.sched_text.specs.Fits.{EventFits, LineFits, IsEvent, DraftFits}
-use Rattle.sched_text.specs.Tenants.{RightsList, GrantsList, Rise, inserted, has_tenant, granted, with_right}
+use Rattle.records.specs.GrantsList.{RightsList, GrantsList, TenantsRise}
+use Rattle.sched_text.specs.Tenants.{inserted, has_tenant, granted, with_right}
 use Rattle.sched_text.proofs.Coding.{good_line, not_not}
 
 -- ---- rows by tenant
@@ -21,7 +22,7 @@ other : (b c : Bool) → cond b true c ≡ false → (b ≡ false) × (c ≡ fal
 other true c e = absurd cc
 other false c e = (refl, e)
 
-inserted_rises : (rows : GrantsList) (least : ℕ) (tenant : TenantId) (rights : RightsList) → least ≤ tenant.0 → has_tenant rows tenant ≡ false → Rise least rows → Rise least (inserted tenant rights rows)
+inserted_rises : (rows : GrantsList) (least : ℕ) (tenant : TenantId) (rights : RightsList) → least ≤ tenant.0 → has_tenant rows tenant ≡ false → TenantsRise least rows → TenantsRise least (inserted tenant rights rows)
 inserted_rises [] least tenant rights low absent rises = (low, tt)
 inserted_rises (row ∷ rest) least tenant rights low absent rises =
     let first = other (eqb row.0.0 tenant.0) (has_tenant rest tenant) absent in
@@ -65,10 +66,10 @@ same_inserted (x ∷ xs) (y ∷ ys) tenant a b e =
           rw (t, u) (cc)
     ]
 
-granted_rises : (rows : GrantsList) (least : ℕ) (tenant : TenantId) (table : TableId) (level : Level) → Rise least rows → Rise least (granted tenant table level rows)
+granted_rises : (rows : GrantsList) (least : ℕ) (tenant : TenantId) (table : TableId) (level : Level) → TenantsRise least rows → TenantsRise least (granted tenant table level rows)
 granted_rises [] least tenant table level rises = tt
 granted_rises (row ∷ rest) least tenant table level rises =
-    elim (eqb row.0.0 tenant.0) as (λ b. Rise least (cond b ((row.0, with_right table level row.1) ∷ rest) (row ∷ granted tenant table level rest))) [
+    elim (eqb row.0.0 tenant.0) as (λ b. TenantsRise least (cond b ((row.0, with_right table level row.1) ∷ rest) (row ∷ granted tenant table level rest))) [
       | true ↦ (rises.0, rises.1)
       | false ↦ (rises.0, granted_rises rest (row.0.0 + 1) tenant table level rises.1)
     ]

@@ -8,7 +8,8 @@ use Rattle.sp_base.specs.declared.numbers.TenantId.{TenantId}
 use Rattle.sp_base.specs.declared.rights.Level.{Level}
 use Rattle.sp_base.specs.declared.rights.Level.TheVariants.{Nothing}
 use Rattle.sp_base.specs.RightsList.{RisesFrom, AreRights}
-use Rattle.sched_text.specs.Tenants.{RightsList, GrantsList, inserted, has_table, with_right, granted}
+use Rattle.records.specs.GrantsList.{RightsList, GrantsList}
+use Rattle.sched_text.specs.Tenants.{inserted, has_table, with_right, granted}
 use Rattle.sched_text.specs.Reading.{tenants_before, tables_before}
 
 -- ---- where a row goes

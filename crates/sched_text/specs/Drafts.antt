@@ -12,7 +12,8 @@ use Rattle.sched_text.specs.declared.line.ScriptLine.{ScriptLine}
 use Rattle.sched_text.specs.declared.line.ScriptLine.TheVariants.{Tenant, Table, Policy, Limit, Workers, Ext, Body}
 use Rattle.sched_text.specs.declared.script.Script.{Script}
 use Rattle.sched_text.specs.Texts.{has_lines}
-use Rattle.sched_text.specs.Tenants.{inserted, has_tenant, rights_of, has_table, granted}
+use Rattle.records.specs.GrantsList.{rights_of}
+use Rattle.sched_text.specs.Tenants.{inserted, has_tenant, has_table, granted}
 
 -- ---- what a line names
 

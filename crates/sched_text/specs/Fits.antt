@@ -11,7 +11,7 @@ use Rattle.sched_text.specs.declared.line.ScriptLine.{ScriptLine}
 use Rattle.sched_text.specs.declared.line.ScriptLine.TheVariants.{Tenant, Table, Policy, Limit, Workers, Ext, Body}
 use Rattle.sched_text.specs.declared.script.Script.{Script}
 use Rattle.sched_text.specs.Drafts.{has_workers, workers_of}
-use Rattle.sched_text.specs.Tenants.{Rise}
+use Rattle.records.specs.GrantsList.{TenantsRise}
 
 -- a number of this range
 pub record IsWithin (least most number : ℕ) : Type 0 where
@@ -57,7 +57,7 @@ pub record IsEvent (workers : ℕ) (event : Event) : Type 0 where
 -- what the lines so far declare is in its ranges
 pub record DraftFits (draft : Draft) : Type 0 where
   pub tenants : map (λ row. row.0) draft.tenants ≡ map (λ row. row.0) draft.rights
-  pub rising : Rise 0 draft.rights
+  pub rising : TenantsRise 0 draft.rights
   pub few : length draft.rights ≤ 1024
   pub policy : IfSome draft.policy (λ policy. policy.least ≤ 100000)
   pub limit : IfSome draft.limit (IsWithin 1 1048576)
@@ -68,7 +68,7 @@ pub record DraftFits (draft : Draft) : Type 0 where
 -- ranges
 pub record IsScript (script : Script) : Type 0 where
   pub tenants : map (λ row. row.0) script.head.tenants ≡ map (λ row. row.0) script.head.rights
-  pub rising : Rise 0 script.head.rights
+  pub rising : TenantsRise 0 script.head.rights
   pub few : length script.head.rights ≤ 1024
   pub policy : script.head.policy.least ≤ 100000
   pub limit : IsWithin 1 1048576 script.head.limit

@@ -3,7 +3,7 @@ use Rattle.std.specs.Prelude.{ℕ, ◌+◌, nat_lt, List, [], ◌∷◌, Option,
 use Rattle.sp_base.specs.declared.numbers.TableId.{TableId}
 use Rattle.sp_base.specs.declared.numbers.TenantId.{TenantId}
 use Rattle.sched_text.specs.Fields.{next_digit}
-use Rattle.sched_text.specs.Tenants.{RightsList}
+use Rattle.records.specs.GrantsList.{RightsList}
 
 -- the digits go on from this value, no further than to the most
 abbrev pub digits_within : ℕ → ℕ → List ℕ → Option ℕ

@@ -3,17 +3,7 @@ use Rattle.std.specs.Prelude.{ℕ, ◌+◌, ◌≤◌, ◌==◌, nat_lt, Bool, t
 use Rattle.sp_base.specs.declared.numbers.TableId.{TableId}
 use Rattle.sp_base.specs.declared.numbers.TenantId.{TenantId}
 use Rattle.sp_base.specs.declared.rights.Level.{Level}
-
-abbrev pub RightsList : Type 0
-RightsList = List (TableId × Level)
-
-abbrev pub GrantsList : Type 0
-GrantsList = List (TenantId × RightsList)
-
--- each tenant is at least this number, and above the one before it
-abbrev pub Rise : {A : Type 0} → ℕ → List (TenantId × A) → Type 0
-Rise least [] = Unit {0}
-Rise least (row ∷ rest) = (least ≤ row.0.0) × Rise (row.0.0 + 1) rest
+use Rattle.records.specs.GrantsList.{RightsList, GrantsList}
 
 -- a row is put in before the first greater tenant
 abbrev pub inserted : {A : Type 0} → TenantId → A → List (TenantId × A) → List (TenantId × A)
@@ -25,12 +15,6 @@ inserted tenant value (row ∷ rest) =
 abbrev pub has_tenant : GrantsList → TenantId → Bool
 has_tenant [] tenant = false
 has_tenant (grant ∷ rest) tenant = if grant.0.0 == tenant.0 then true else has_tenant rest tenant
-
--- the rights of a tenant: none where no row names it
-abbrev pub rights_of : GrantsList → TenantId → RightsList
-rights_of [] tenant = []
-rights_of (grant ∷ rest) tenant =
-    if grant.0.0 == tenant.0 then grant.1 else rights_of rest tenant
 
 -- whether a level is given for the table
 abbrev pub has_table : RightsList → TableId → Bool

@@ -3,7 +3,8 @@
 ghost use Rattle.std.specs.Prelude.{◌≡◌, ◌≢◌, ◌≤◌, ◌<◌, false, [], ◌∷◌, ◌++◌, length, take, drop, unwrap_or, IfOk, OnOk};
 ghost use Rattle.std.specs.Option.{option_copied};
 ghost use Rattle.sched_text.specs.Reading.{tenants_before, tables_before};
-ghost use Rattle.sched_text.specs.Tenants.{inserted, has_tenant, rights_of, has_table, with_right, granted};
+ghost use Rattle.records.specs.GrantsList.{rights_of};
+ghost use Rattle.sched_text.specs.Tenants.{inserted, has_tenant, has_table, with_right, granted};
 
 use crate::rows::Rows;
 use sp_base::{Level, Memory, Rights, TableId, TenantId};

@@ -1,6 +1,6 @@
 -- the rights that the rows still to come give are those that all give
 use Rattle.std.proofs.Common.{◌≡◌, drop}
-use Rattle.sched_text.specs.Tenants.{rights_of}
+use Rattle.records.specs.GrantsList.{rights_of}
 use Rattle.sched_text.proofs.tenants.found.Given as goal
 
 abbrev pub invariant-loop-number : goal.invariant-loop-number

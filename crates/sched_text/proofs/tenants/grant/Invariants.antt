@@ -1,6 +1,7 @@
 -- no row passed over names the tenant
 use Rattle.std.proofs.Common.{◌≡◌, ◌++◌, take, drop}
-use Rattle.sched_text.specs.Tenants.{granted, rights_of}
+use Rattle.records.specs.GrantsList.{rights_of}
+use Rattle.sched_text.specs.Tenants.{granted}
 use Rattle.sched_text.proofs.tenants.grant.Given as goal
 
 abbrev pub invariant-loop-at : goal.invariant-loop-at
