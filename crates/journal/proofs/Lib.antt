@@ -5,3 +5,5 @@ pub mod Committing
 pub mod Growing
 pub mod Behind
 pub mod Fitting
+pub mod AloneProved
+pub mod Lengths

@@ -4,4 +4,6 @@ pub mod Sizes
 pub mod Reads
 pub mod Legal
 pub mod VersionLaws
+pub mod Alone
 pub mod Journals
+pub mod EntryBytes
