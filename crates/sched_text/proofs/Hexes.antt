@@ -19,10 +19,10 @@ letter_is byte value e =
     let high : byte ≤ 102 = ltb-false 102 byte b.0 in
     (omega arith, omega arith, omega arith)
 
-hex_low : (value : ℕ) → value < 10 → hex_digit value ≡ 48 + value
+pub hex_low : (value : ℕ) → value < 10 → hex_digit value ≡ 48 + value
 hex_low value lt = let test : ltb value 10 ≡ true = lt-ltb value 10 lt in rw test refl
 
-hex_high : (value : ℕ) → 10 ≤ value → hex_digit value ≡ 87 + value
+pub hex_high : (value : ℕ) → 10 ≤ value → hex_digit value ≡ 87 + value
 hex_high value le = let test : ltb value 10 ≡ false = le-ltb value 10 le in rw test refl
 
 hex_is : (byte value : ℕ) → hex_value byte ≡ Some value → (byte ≡ hex_digit value) × (value < 16)

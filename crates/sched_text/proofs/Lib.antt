@@ -1,3 +1,4 @@
+pub mod Written
 pub mod Decimals
 pub mod Hexes
 pub mod Spaces
