@@ -11,7 +11,7 @@ use Rattle.ext_check.proofs.OneRefusal.{one-refusal}
 use Rattle.splinter.specs.declared.status.Status.{Status}
 use Rattle.splinter.specs.declared.status.Status.TheVariants as status
 use Rattle.splinter.specs.Checks.{Checks, IsRefusal, IsVerdict, refused_line}
-use Rattle.splinter.specs.Running.{WritesText}
+use Rattle.splinter.specs.Ending.{WritesText}
 
 -- a verdict that was written, of an input of which nothing is left
 checked : (result stands : Status) (input text held : List ℕ) (left after : Option (List ℕ)) → left ≡ Some [] → IsVerdict input stands text

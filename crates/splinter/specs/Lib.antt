@@ -1,13 +1,5 @@
-pub mod LookUps
-pub mod Script
-pub mod Reading
-pub mod ScriptLines
-pub mod Play
-pub mod Lines
-pub mod Steps
-pub mod Stepping
-pub mod Draining
-pub mod Moved
+pub mod Ending
 pub mod Running
+pub mod Playing
 pub mod Words
 pub mod Checks

@@ -1,28 +1,21 @@
 //! The command `check`.
 
-ghost use Rattle.std.specs.Prelude.{◌≡◌, ◌≢◌, ◌≤◌, ◌+◌, length, IfSome, IfOk};
-ghost use Rattle.sp_outside.specs.Faults.{FaultCounted};
+ghost use Rattle.std.specs.Prelude.{◌≡◌, ◌≢◌, ◌+◌, length, IfSome, IfOk};
 ghost use Rattle.sp_outside.specs.Reading.{TookUpTo};
 ghost use Rattle.splinter.specs.Checks.{Checks, IsVerdict, JudgesText, accepted_line, most_text, refused_line};
+ghost use Rattle.splinter.specs.Ending.{Causes, WritesNothing};
 
-use crate::run::write;
 use crate::status::Status;
-use crate::text::Text;
+use crate::verdict::{Verdict, write};
 use ext_check::{CheckFault, check_text};
 use ext_mean::Refusal;
+use report::Text;
 use sp_base::Memory;
 use sp_outside::{Input, Sink, Source, read_input};
 use std::alloc::Global;
 
 /// The most bytes of an extension's text.
 const MOST_TEXT: usize = 16_384;
-
-/// What is to be written of an input.
-#[derive(Drop)]
-struct Verdict {
-    status: Status,
-    text: Text,
-}
 
 /// Checks the extension that the source gives: one line tells the number of its functions, or the line
 /// and the code of its first refusal. All is read before anything is written.
@@ -35,16 +28,10 @@ pub fn check_command<S: Source, K: Sink>(alloc: Global, source: &mut S, sink: &m
     // At most one byte more than a text may have is read.
     ensures taken { IfSome (S.left source.old) (λ input. TookUpTo (most_text + 1) input (S.left source.new)) }
     // Why it stopped. Where no fault was counted it ends Ok or Refused, or for want of memory.
-    ensures read_fault { result ≡ Status.ReadFault → FaultCounted (S.faults source.old) (S.faults source.new) }
-    ensures write_fault { result ≡ Status.WriteFault → FaultCounted (K.faults sink.old) (K.faults sink.new) }
+    ensures causes { Causes result (S.faults source.old) (S.faults source.new) (K.faults sink.old) (K.faults sink.new) }
     ensures command { result ≢ Status.Usage }
     ensures no_run { result ≢ Status.Script }
-    // After a read fault, and where memory ran out, nothing was written.
-    ensures unread { result ≡ Status.ReadFault → sink.new ≡ sink.old }
-    ensures no_memory { result ≡ Status.Memory → sink.new ≡ sink.old }
-    // The counts never fall.
-    ensures source_faults { S.faults source.old ≤ S.faults source.new }
-    ensures sink_faults { K.faults sink.old ≤ K.faults sink.new }
+    ensures nothing { WritesNothing result sink.old sink.new }
 {
     match read_input(alloc, source, MOST_TEXT) {
         Input::Whole(input) => match verdict_of(alloc, input.as_slice()) {

@@ -3,22 +3,13 @@
 #![tactic(auto)]
 
 mod check;
-mod fields;
-mod line;
-mod live;
-mod look_up;
 mod play;
-mod printing;
-mod reading;
 mod run;
-mod script;
-mod script_lines;
 mod status;
 #[cfg(test)]
 mod tests;
-mod text;
 mod top;
-mod turn;
+mod verdict;
 
 use sp_outside::{StdSink, StdSource};
 use status::Status;

@@ -1,5 +1,4 @@
-mod meanings;
-mod running;
+mod rows;
 
 use crate::status::Status;
 use crate::top::splinter;
@@ -27,79 +26,45 @@ fn main() -> int { get(5, args()) { some s => { resp(s); } none => { } } return 
 journal 2 invoke 1 1 1 0 100 x6b server done 0 x7631 reads 1 5 x6b 1 writes 0
 ";
 
-/// Each case is a command with the status that it ends with, its input, and what it writes. No grant and
-/// a budget that is too small; arguments that are no key; a number that names no extension; the empty
-/// script and others that are none; and extensions that may run or are refused, one of them by the
-/// grammar, the types and the rules of ownership at once.
+/// Each case is a command with the status that it ends with, its input, and what it writes: scripts whose
+/// first bad line has each code that a run can tell, and extensions that may run or are refused, one of them
+/// by the grammar, the types and the rules of ownership at once.
 const CASES: &str = "\
-$run 0
-tenant 1 7
-table 6 1 write
-put 1 5 x6b x7631
-ext 1 1
-fn main() -> int { get(5, args()) { some s => { resp(s); } none => { } } return 0; }
-begin 0 1 1 1 0 100 stay x6b
->>
-3 denied
-4 installed 0 ext 0
-6 1.1.1 queued
-drain 1.1.1 committed 1 trap 4
-journal 0 install 1 0 1
-fn main() -> int { get(5, args()) { some s => { resp(s); } none => { } } return 0; }
-journal 1 invoke 1 1 1 0 100 x6b server trap 4 reads 0 writes 0
-$run 0
-tenant 2 0
-table 5 2 read
-put 2 5 x6b x
-ext 2 1
-fn main() -> int { get(5, args()) { some s => { resp(s); } none => { } } return 9; }
-begin 0 2 4294967295 18446744073709551615 0 17 stay x00ff
->>
-3 denied
-4 installed 0 ext 0
-6 2.4294967295.18446744073709551615 queued
-drain 2.4294967295.18446744073709551615 read 5 x00ff 0
-drain 2.4294967295.18446744073709551615 committed 1 killed
-journal 0 install 2 0 1
-fn main() -> int { get(5, args()) { some s => { resp(s); } none => { } } return 9; }
-journal 1 invoke 2 4294967295 18446744073709551615 0 17 x00ff server killed reads 1 5 x00ff 0 writes 0
-$run 0
-tenant 1 7
-table 5 1 write
-put 1 5 x6b x7631
-ext 1 1
-fn main() -> int { get(5, args()) { some s => { resp(s); } none => { } } return 0; }
-begin 0 1 1 1 0 100 stay x
->>
-3 put 0
-4 installed 1 ext 0
-6 1.1.1 queued
-drain 1.1.1 committed 2 trap 3
-journal 0 put 1 5 x6b x7631
-journal 1 install 1 0 1
-fn main() -> int { get(5, args()) { some s => { resp(s); } none => { } } return 0; }
-journal 2 invoke 1 1 1 0 100 x server trap 3 reads 0 writes 0
-$run 0
-tenant 1 7
-table 5 1 write
-put 1 5 x6b x7631
-ext 1 1
-fn main() -> int { get(5, args()) { some s => { resp(s); } none => { } } return 0; }
-begin 0 1 1 1 1 100 stay x6b
->>
-3 put 0
-4 installed 1 ext 0
-6 1.1.1 no-extension 1
-journal 0 put 1 5 x6b x7631
-journal 1 install 1 0 1
-fn main() -> int { get(5, args()) { some s => { resp(s); } none => { } } return 0; }
 $run 3
+ tenant 1 7
 >>
-script 0 NotYet
+script 1 Word
+$run 3
+tenant 1  7
+>>
+script 1 Count
+$run 3
+tenant 01 7
+>>
+script 1 Field
+$run 3
+turn 0 5
+limit 5
+>>
+script 2 Order
+$run 3
+table 5 1 read
+>>
+script 1 NoTenant
+$run 3
+turn 1 5
+>>
+script 1 NoWorker
 $run 3
 tenant 1 7
+ext 1 2
+fn main() -> int { return 0; }
 >>
-script 0 NotYet
+script 2 Text
+$run 3
+policy 1 17
+>>
+script 1 NotYet
 $check 1
 fn main() -> int {
   let b: temp = temp(4);
@@ -188,17 +153,16 @@ fn expect(
 ) -> Result<(), Fail> {
     let words = vec![in alloc; String::from_str(alloc, command)?]?;
     let mut source = source_of(alloc, input, Vec::new(alloc))?;
-    let mut sink = MemSink::of(alloc, 1000, Vec::new(alloc))?;
+    let mut sink = MemSink::of(alloc, 4000, Vec::new(alloc))?;
     let ended = splinter(&(), alloc, words.as_slice(), &mut source, &mut sink);
     assert_eq!(rt; ended as u8, status, "{text}");
     assert_eq!(rt; sink.held.as_slice(), text.as_bytes());
     Ok(())
 }
 
-#[test]
-fn commands_write_what_is_told(rt: HostRuntime) -> Result<(), Fail> {
-    let alloc = rt.alloc();
-    for case in CASES.split('$').skip(1) {
+/// Each case of a table.
+fn expect_all(rt: &impl Abort, alloc: Global, cases: &str) -> Result<(), Fail> {
+    for case in cases.split('$').skip(1) {
         let Some((head, rest)) = case.split_once('\n') else {
             return Err(Fail::new("no head"));
         };
@@ -208,17 +172,25 @@ fn commands_write_what_is_told(rt: HostRuntime) -> Result<(), Fail> {
         let Some((input, text)) = rest.split_once(">>\n") else {
             return Err(Fail::new("no text"));
         };
-        expect(
-            &rt,
-            alloc,
-            command,
-            input.as_bytes(),
-            status.parse::<u8>()?,
-            text,
-        )?;
+        let status = status.parse::<u8>()?;
+        expect(rt, alloc, command, input.as_bytes(), status, text)?;
     }
+    Ok(())
+}
+
+#[test]
+fn commands_write_what_is_told(rt: HostRuntime) -> Result<(), Fail> {
+    let alloc = rt.alloc();
+    expect_all(&rt, alloc, CASES)?;
     let longer = vec![in alloc; b' '; 16_385]?;
-    expect(&rt, alloc, "check", longer.as_slice(), 1, "line 1 Long\n")
+    expect(&rt, alloc, "check", longer.as_slice(), 1, "line 1 Long\n")?;
+    let longer = vec![in alloc; b'\n'; 4_194_305]?;
+    expect(&rt, alloc, "run", longer.as_slice(), 3, "script 0 Long\n")
+}
+
+#[test]
+fn scripts_play_as_the_rules_say(rt: HostRuntime) -> Result<(), Fail> {
+    expect_all(&rt, rt.alloc(), rows::ROWS)
 }
 
 #[test]

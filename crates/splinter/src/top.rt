@@ -1,9 +1,9 @@
 //! The top call: it takes the program's words, and runs the command that they name.
 
-ghost use Rattle.std.specs.Prelude.{◌≡◌, ◌↔◌, ◌≤◌, ◌+◌, IsTrue, IfSome};
-ghost use Rattle.sp_outside.specs.Faults.{FaultCounted};
+ghost use Rattle.std.specs.Prelude.{◌≡◌, ◌↔◌, ◌+◌, IsTrue, IfSome};
 ghost use Rattle.sp_outside.specs.Reading.{TookUpTo};
 ghost use Rattle.splinter.specs.Checks.{Checks, JudgesText, most_text};
+ghost use Rattle.splinter.specs.Ending.{Causes, WritesNothing};
 ghost use Rattle.splinter.specs.Running.{JudgesScript, Runs, most_script};
 ghost use Rattle.splinter.specs.Words.{AreCheck, AreOnly, AreRun};
 
@@ -39,16 +39,10 @@ pub fn splinter<R, S: Source, K: Sink>(
         TookUpTo (most_text + 1) input (S.left source.new)) }
     // Why it stopped. Where no fault was counted `run` ends Ok or Script, and `check` Ok or Refused, or
     // either for want of memory.
-    ensures read_fault { result ≡ Status.ReadFault → FaultCounted (S.faults source.old) (S.faults source.new) }
-    ensures write_fault { result ≡ Status.WriteFault → FaultCounted (K.faults sink.old) (K.faults sink.new) }
+    ensures causes { Causes result (S.faults source.old) (S.faults source.new) (K.faults sink.old) (K.faults sink.new) }
     ensures refused { result ≡ Status.Refused → AreCheck words.now }
     ensures script { result ≡ Status.Script → AreRun words.now }
-    // After a read fault, and where memory ran out, nothing was written.
-    ensures unread { result ≡ Status.ReadFault → sink.new ≡ sink.old }
-    ensures no_memory { result ≡ Status.Memory → sink.new ≡ sink.old }
-    // The counts never fall.
-    ensures source_faults { S.faults source.old ≤ S.faults source.new }
-    ensures sink_faults { K.faults sink.old ≤ K.faults sink.new }
+    ensures nothing { WritesNothing result sink.old sink.new }
 {
     if are_only("run", words) {
         run_command(alloc, source, sink)

@@ -1,0 +1,25 @@
+-- The verdict on a whole input, and an input that is too long.
+use Rattle.splinter.specs.Running.{most_script}
+use Rattle.splinter.proofs.Judging.{took-longer, took-whole}
+use Rattle.splinter.proofs.Ran.{longer-judged, told-too-long}
+use Rattle.splinter.proofs.run.run_command.Goals as goal
+
+pub returns-in-Longer-clause-told : goal.returns-in-Longer-clause-told
+returns-in-Longer-clause-told g c =
+    told-too-long (g.S.Source.left c.args.source.now) (g.S.Source.left c.read_input.new.source)
+    (g.K.Sink.held c.args.sink.now) (g.K.Sink.held c.write-in-Longer.new.sink) c.write-in-Longer.result
+    c.in-Longer.ensures.told c.write-in-Longer.ensures.told
+
+pub returns-in-Longer-clause-judged : goal.returns-in-Longer-clause-judged
+returns-in-Longer-clause-judged g c =
+    longer-judged (g.S.Source.left c.args.source.now) (g.S.Source.left c.read_input.new.source) c.write-in-Longer.result
+    c.in-Longer.ensures.told c.write-in-Longer.ensures.ends
+
+pub returns-in-Longer-clause-taken : goal.returns-in-Longer-clause-taken
+returns-in-Longer-clause-taken g c =
+    took-longer most_script (g.S.Source.left c.args.source.now) (g.S.Source.left c.read_input.new.source) c.in-Longer.ensures.told
+
+pub returns-in-Ok-clause-taken : goal.returns-in-Ok-clause-taken
+returns-in-Ok-clause-taken g c =
+    took-whole most_script (g.S.Source.left c.args.source.now) (g.S.Source.left c.read_input.new.source) c.in-Whole.input.items
+    c.in-Whole.ensures.told c.in-Whole.ensures.within
