@@ -1,4 +1,3 @@
-pub mod ProgressLemmas
 pub mod TableLemmas
 pub mod GivingEquations
 pub mod OwnedEquations

@@ -12,9 +12,9 @@ use Rattle.ext_mean.specs.declared.statement.Block.{Block}
 use Rattle.ext_mean.specs.Items.{last_is_return}
 use Rattle.ext_mean.specs.OwnedItems.{Scene, newly_gone}
 use Rattle.ext_mean.specs.Ownership.{Course, Passed, again, again_both, declares_more, either, extended, leaves, one_of, owned, owned_block, pass_in_order}
-use Rattle.ext_borrow.specs.declared.progress.Progress.{Progress}
-use Rattle.ext_borrow.specs.Progress.{after, behind, joined}
-use Rattle.ext_borrow.proofs.ProgressLemmas.{after-append, after-step, joined-after}
+use Rattle.ext_mean.specs.declared.progress.Progress.{Progress}
+use Rattle.ext_mean.specs.Progress.{after, behind, joined}
+use Rattle.ext_mean.proofs.ProgressLemmas.{after-append, after-step, joined-after}
 use Rattle.ext_borrow.proofs.OwnedEquations.{block-passes, last-returns}
 
 -- the first of the items that are left
@@ -34,20 +34,20 @@ module _ (loans : List (List Bool)) (items : List Statement) (at : ℕ) (item : 
   pub one-gone : (pass_in_order (map (owned loans) (drop (at + 1) items)) more since).gone ≡ (pass_in_order (map (owned loans) (drop at items)) scene gone).gone
   one-gone = let d = drop-item items at item below item-is in rw (d, since-is, more-is) refl
 
-  pub one-codes : (was is : Progress) → is ≡ after was ((owned loans item).passes scene gone).codes
+  pub one-codes : (was is : Progress BorrowCode) → is ≡ after was ((owned loans item).passes scene gone).codes
       → after is (pass_in_order (map (owned loans) (drop (at + 1) items)) more since).codes ≡ after was (pass_in_order (map (owned loans) (drop at items)) scene gone).codes
   one-codes was is goes =
       let d = drop-item items at item below item-is in
       let passed = (owned loans item).passes scene gone in
       rw (d, goes, since-is, more-is) (sym (after-append was passed.codes (pass_in_order (map (owned loans) (drop (at + 1) items)) (declares_more scene (length gone) (owned loans item).declares) passed.gone).codes))
 
-nothing-more : (progress : Progress) → progress ≡ after progress []
+nothing-more : (progress : Progress BorrowCode) → progress ≡ after progress []
 nothing-more progress = let e : progress.item ≡ progress.item + 0 = omega arith in ap (λ (n : ℕ). record progress { item = n }) e
 
 -- all statements of a block were passed
 module _ (loans : List (List Bool)) (block : Block) (items : List Statement) (at : ℕ) (scene more : Scene) (gone since : List Bool)
     (items-are : items ≡ block.items) (none-left : length items ≤ at) where
-  pub all-codes : (was is : Progress)
+  pub all-codes : (was is : Progress BorrowCode)
       → after is (pass_in_order (map (owned loans) (drop at items)) more since).codes ≡ after was (pass_in_order (map (owned loans) items) scene gone).codes
       → is ≡ after was (owned_block loans block scene gone).codes
   all-codes was is goes =
@@ -72,7 +72,7 @@ outer-stays outer scope more stays =
     take-append-le (length outer) scope more n ∙ stays
 
 -- an item and its two blocks, of which one is run
-module _ (own : Option BorrowCode) (first whole : Passed) (other : Course) (scene scene2 : Scene) (gone gone1 gone2 gone3 : List Bool) (p0 p1 p2 p3 : Progress)
+module _ (own : Option BorrowCode) (first whole : Passed) (other : Course) (scene scene2 : Scene) (gone gone1 gone2 gone3 : List Bool) (p0 p1 p2 p3 : Progress BorrowCode)
     (whole-is : whole ≡ one_of own first (other scene (extended gone first.gone)))
     (p1-is : p1 ≡ after p0 (own ∷ [])) (p2-is : p2 ≡ after p1 first.codes) (gone1-is : gone1 ≡ first.gone)
     (scene2-is : scene2 ≡ scene) (gone2-is : gone2 ≡ extended gone gone1)
@@ -91,7 +91,7 @@ module _ (own : Option BorrowCode) (first whole : Passed) (other : Course) (scen
   branches-gone = rw (whole-is, gone1-is, gone3-is) (ap (λ (z : Passed). either first.gone z.gone) second-is)
 
 -- an item and its block, which may run again
-module _ (own : Bool → Option BorrowCode) (body whole : Passed) (gone gone1 : List Bool) (p0 q1 : Progress)
+module _ (own : Bool → Option BorrowCode) (body whole : Passed) (gone gone1 : List Bool) (p0 q1 : Progress BorrowCode)
     (whole-is : whole ≡ again own gone body)
     (q1-is : q1 ≡ after (behind p0) body.codes) (gone1-is : gone1 ≡ body.gone) where
   pub turns-codes : joined (after p0 (own (newly_gone gone gone1) ∷ [])) q1 ≡ after p0 whole.codes
@@ -101,7 +101,7 @@ module _ (own : Bool → Option BorrowCode) (body whole : Passed) (gone gone1 : 
   turns-gone = rw (whole-is, gone1-is) refl
 
 -- an item and its two blocks, which may run again
-module _ (own : Bool → Option BorrowCode) (first whole : Passed) (other : Course) (scene scene2 : Scene) (gone gone1 gone2 gone3 : List Bool) (p0 q1 q2 : Progress)
+module _ (own : Bool → Option BorrowCode) (first whole : Passed) (other : Course) (scene scene2 : Scene) (gone gone1 gone2 gone3 : List Bool) (p0 q1 q2 : Progress BorrowCode)
     (whole-is : whole ≡ again_both own gone first (other scene (extended gone first.gone)))
     (q1-is : q1 ≡ after (behind p0) first.codes) (gone1-is : gone1 ≡ first.gone)
     (scene2-is : scene2 ≡ scene) (gone2-is : gone2 ≡ extended gone gone1)

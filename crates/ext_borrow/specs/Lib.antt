@@ -1,4 +1,3 @@
-pub mod Progress
 pub mod Refusals
 pub mod Scenes
 pub mod Walks

@@ -2,7 +2,7 @@
 use Rattle.std.specs.Prelude.{◌≡◌}
 use Rattle.ext_mean.specs.Ownership.{Passed}
 use Rattle.ext_borrow.specs.declared.state.Walk.{Walk}
-use Rattle.ext_borrow.specs.Progress.{after}
+use Rattle.ext_mean.specs.Progress.{after}
 
 -- A walk passed some items: it is behind their codes, and what is gone behind them is gone.
 pub record Passes (was is : Walk) (passed : Passed) : Type 0 where

@@ -1,18 +1,17 @@
 ghost use Rattle.std.specs.Prelude.{◌≡◌, ◌+◌, IfOk, IfErr, OnOk, false, length, replicate};
 ghost use Rattle.ext_mean.specs.Borrowing.{loans_of, numbered};
 ghost use Rattle.ext_mean.specs.Ownership.{IsOwned, borrow_fault, owned_function, owned_functions};
-ghost use Rattle.ext_borrow.specs.Progress.{after, start};
+ghost use Rattle.ext_mean.specs.Progress.{after, start};
 ghost use Rattle.ext_borrow.specs.Refusals.{Explains};
 
 use crate::giving::{Gathered, declare, gather_block};
 use crate::marks::no_marks;
-use crate::progress::Progress;
 use crate::refusal::BorrowRefusal;
 use crate::scene::Scene;
 use crate::state::Walk;
 use crate::table::{Row, loans};
 use crate::walk::pass_block;
-use ext_mean::{Function, Param, Program, Variable};
+use ext_mean::{BorrowCode, Function, Param, Program, Progress, Variable};
 use sp_base::Memory;
 use std::alloc::Global;
 
@@ -42,12 +41,12 @@ fn loans_in(alloc: Global, function: &Function) -> Result<Vec<Row>, Memory>
 }
 
 /// Goes through a function's items.
-#[tactic(auto, using(crate::proofs::ProgressLemmas::progress_lemmas))]
+#[tactic(auto, using(ext_mean::proofs::ProgressLemmas::progress_lemmas))]
 fn check_function(
     alloc: Global,
     function: &Function,
-    progress: Progress,
-) -> Result<Progress, Memory>
+    progress: Progress<BorrowCode>,
+) -> Result<Progress<BorrowCode>, Memory>
     ensures { IfOk result (λ is. is ≡ after progress (owned_function function.now)) }
 {
     let loans = loans_in(alloc, function)?;
@@ -67,14 +66,11 @@ fn check_function(
 }
 
 /// Goes through all items.
-#[tactic(auto, using(crate::proofs::ProgressLemmas::progress_lemmas))]
-fn check_functions(alloc: Global, functions: &[Function]) -> Result<Progress, Memory>
+#[tactic(auto, using(ext_mean::proofs::ProgressLemmas::progress_lemmas))]
+fn check_functions(alloc: Global, functions: &[Function]) -> Result<Progress<BorrowCode>, Memory>
     ensures { IfOk result (λ progress. progress ≡ after start (owned_functions functions.now)) }
 {
-    let mut progress = Progress {
-        item: 0,
-        found: None,
-    };
+    let mut progress = Progress::start();
     for function in functions {
         progress = check_function(alloc, function, progress)?;
     }

@@ -10,7 +10,6 @@ mod items;
 mod marks;
 mod origins;
 mod plain;
-mod progress;
 mod refusal;
 mod scene;
 mod state;

@@ -1,7 +1,7 @@
 ghost use Rattle.std.specs.Prelude.{◌≡◌, ◌-◌, ◌||◌, ◌∷◌, [], OnOk, length, take};
 ghost use Rattle.ext_mean.specs.Ownership.{Owned, declares_more, extended, form_passes, with_held};
 ghost use Rattle.ext_mean.specs.OwnedItems.{looks, loops, newly_gone};
-ghost use Rattle.ext_borrow.specs.Progress.{after, joined};
+ghost use Rattle.ext_mean.specs.Progress.{after, joined};
 ghost use Rattle.ext_mean.specs.declared.statement.Statement.TheOpen.{Statement-F};
 ghost use Rattle.ext_borrow.specs.Scenes.{seen};
 ghost use Rattle.ext_borrow.specs.Walks.{Passes};
@@ -14,10 +14,9 @@ use crate::items::{
 };
 use crate::marks::{either_newly_gone, mark, newly_gone, unmark};
 use crate::origins::{moved_by, number_of, origin_of};
-use crate::progress::Progress;
 use crate::state::Walk;
 use crate::table::Row;
-use ext_mean::{Expr, Kind, Name};
+use ext_mean::{BorrowCode, Expr, Kind, Name, Progress};
 use sp_base::Memory;
 use std::alloc::Global;
 
@@ -184,7 +183,7 @@ pub fn look_twice(walk: &mut Walk, first: &Expr, second: &Expr) -> Result<(), Me
 pub fn leave_while(
     alloc: Global,
     walk: &mut Walk,
-    place: Progress,
+    place: Progress<BorrowCode>,
     before: &[bool],
     test: &Expr,
 ) -> Result<(), Memory>
@@ -214,7 +213,7 @@ pub fn hold(walk: &mut Walk, keys: &Expr) -> Result<(), Memory>
 pub fn leave_multiget(
     alloc: Global,
     walk: &mut Walk,
-    place: Progress,
+    place: Progress<BorrowCode>,
     before: &[bool],
     first: &[bool],
     operands: (&Expr, &Expr, &Expr),

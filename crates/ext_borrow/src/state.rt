@@ -1,11 +1,10 @@
 ghost use Rattle.std.specs.Prelude.{◌≡◌, IfOk, OnOk, false, ◌∷◌, []};
 ghost use Rattle.ext_mean.specs.Ownership.{either, extended, leaves};
-ghost use Rattle.ext_borrow.specs.Progress.{after, behind, joined};
+ghost use Rattle.ext_mean.specs.Progress.{after, behind, joined};
 
 use crate::marks::{either, extended};
-use crate::progress::Progress;
 use crate::scene::Scene;
-use ext_mean::BorrowCode;
+use ext_mean::{BorrowCode, Progress};
 use sp_base::Memory;
 use std::alloc::Global;
 use std::mem;
@@ -16,7 +15,7 @@ pub struct Walk {
     pub scene: Scene,
     /// The marks of the buffers that are gone.
     pub gone: Vec<bool>,
-    pub progress: Progress,
+    pub progress: Progress<BorrowCode>,
 }
 
 impl Walk {
@@ -71,7 +70,7 @@ impl Walk {
     }
 
     /// Enters a loop, whose own item is judged behind its blocks. Its place is handed out.
-    pub fn enter(&mut self) -> Result<Progress, Memory>
+    pub fn enter(&mut self) -> Result<Progress<BorrowCode>, Memory>
         ensures place { IfOk result (λ place. place ≡ self.old.progress) }
         ensures progress { OnOk result (self.new.progress ≡ behind self.old.progress) }
         ensures gone { self.new.gone ≡ self.old.gone }
@@ -86,7 +85,7 @@ impl Walk {
     pub fn leave_loop(
         &mut self,
         alloc: Global,
-        place: Progress,
+        place: Progress<BorrowCode>,
         before: &[bool],
         code: Option<BorrowCode>,
     ) -> Result<(), Memory>

@@ -26,3 +26,4 @@ pub mod Bounding
 pub mod LookupSpelled
 pub mod CanonicalForms
 pub mod Borrowers
+pub mod ProgressLemmas

@@ -19,6 +19,7 @@ pub mod Outcomes
 pub mod OwnedItems
 pub mod Ownership
 pub mod ProgramItems
+pub mod Progress
 pub mod Refusals
 pub mod SyntaxFaults
 pub mod Text

@@ -9,6 +9,7 @@ mod expr;
 mod laws;
 mod lookup;
 mod name;
+mod progress;
 mod refusal;
 mod run;
 mod share;
@@ -30,6 +31,7 @@ pub use laws::{
 };
 pub use lookup::{lookup_is_spelled, lookup_means, lookup_program};
 pub use name::Name;
+pub use progress::Progress;
 pub use refusal::Refusal;
 pub use run::Run;
 pub use state::{Buffer, Local, State, Value};

@@ -1,3 +1,2 @@
-pub mod ProgressLemmas
 pub mod TypingEquations
 pub mod WalkLemmas

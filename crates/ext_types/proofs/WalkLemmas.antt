@@ -8,9 +8,9 @@ use Rattle.ext_mean.specs.declared.statement.Statement.{Statement}
 use Rattle.ext_mean.specs.declared.statement.Block.{Block}
 use Rattle.ext_mean.specs.TypesOfItems.{Setting}
 use Rattle.ext_mean.specs.Typing.{block_codes, checked, in_order}
-use Rattle.ext_types.specs.declared.progress.Progress.{Progress}
-use Rattle.ext_types.specs.Progress.{after}
-use Rattle.ext_types.proofs.ProgressLemmas.{after-append, after-step}
+use Rattle.ext_mean.specs.declared.progress.Progress.{Progress}
+use Rattle.ext_mean.specs.Progress.{after}
+use Rattle.ext_mean.proofs.ProgressLemmas.{after-append, after-step}
 use Rattle.ext_types.proofs.TypingEquations.{block_codes-items}
 
 -- the first of the items that are left
@@ -19,7 +19,7 @@ drop-item items at item below is =
     let d : drop at items ≡ get_or items at item ∷ drop (at + 1) items = rw (add-one, drop-cons items at item) in
     d ∙ ap (λ first. first ∷ drop (at + 1) items) (sym is)
 
-pub one-statement : (setting : Setting) (items : List Statement) (at : ℕ) (item : Statement) (was is : Progress) (scope more : List Param)
+pub one-statement : (setting : Setting) (items : List Statement) (at : ℕ) (item : Statement) (was is : Progress TypeCode) (scope more : List Param)
     → at < length items → item ≡ get_or items at item
     → is ≡ after was ((checked setting item).codes scope)
     → more ≡ scope ++ (checked setting item).declares
@@ -28,11 +28,11 @@ one-statement setting items at item was is scope more below item-is goes declare
     let d = drop-item items at item below item-is in
     rw (d, goes, declares) (sym (after-append was ((checked setting item).codes scope) (in_order (map (checked setting) (drop (at + 1) items)) (scope ++ (checked setting item).declares))))
 
-nothing-more : (progress : Progress) → progress ≡ after progress []
+nothing-more : (progress : Progress TypeCode) → progress ≡ after progress []
 nothing-more progress = let e : progress.item ≡ progress.item + 0 = omega arith in ap (λ (n : ℕ). record progress { item = n }) e
 
 -- nothing is left
-pub no-statement : (setting : Setting) (block : Block) (items : List Statement) (at : ℕ) (was is : Progress) (scope more : List Param)
+pub no-statement : (setting : Setting) (block : Block) (items : List Statement) (at : ℕ) (was is : Progress TypeCode) (scope more : List Param)
     → items ≡ block.items → length items ≤ at
     → after is (in_order (map (checked setting) (drop at items)) more) ≡ after was (in_order (map (checked setting) items) scope)
     → is ≡ after was (block_codes setting block scope)
@@ -48,14 +48,14 @@ outer-stays outer scope more stays =
     take-append-le (length outer) scope more n ∙ stays
 
 -- a statement's own item, and then those of its two blocks
-pub two-blocks : (was note mid : Progress) (code own : Option TypeCode) (first second after_it all : List (Option TypeCode))
+pub two-blocks : (was note mid : Progress TypeCode) (code own : Option TypeCode) (first second after_it all : List (Option TypeCode))
     → note ≡ after was (code ∷ []) → mid ≡ after note first → after_it ≡ second → code ≡ own → all ≡ own ∷ (first ++ second)
     → after mid after_it ≡ after was all
 two-blocks was note mid code own first second after_it all noted behind same is whole =
     cc (after-step was code (first ++ second), after-append note first second)
 
 -- the same with one block
-pub one-block : (was note : Progress) (code own : Option TypeCode) (first after_it all : List (Option TypeCode))
+pub one-block : (was note : Progress TypeCode) (code own : Option TypeCode) (first after_it all : List (Option TypeCode))
     → note ≡ after was (code ∷ []) → after_it ≡ first → code ≡ own → all ≡ own ∷ first
     → after note after_it ≡ after was all
 one-block was note code own first after_it all noted same is whole = cc (after-step was code first)

@@ -1,14 +1,13 @@
 ghost use Rattle.std.specs.Prelude.{◌≡◌, ◌<◌, ◌+◌, ◌==◌, ◌∷◌, None, IfOk, IfErr, OnOk, length, take};
 ghost use Rattle.ext_mean.specs.Typing.{IsTyped, block_codes, function_codes, head_code, setting_of, type_fault};
-ghost use Rattle.ext_types.specs.Progress.{after, start};
+ghost use Rattle.ext_mean.specs.Progress.{after, start};
 ghost use Rattle.ext_types.specs.Refusals.{Explains};
 
 use crate::functions::head_code;
 use crate::place::Place;
-use crate::progress::Progress;
 use crate::refusal::TypeRefusal;
 use crate::walk::{check_block, declare};
-use ext_mean::{Function, Param, Program};
+use ext_mean::{Function, Param, Program, Progress, TypeCode};
 use sp_base::Memory;
 use std::alloc::Global;
 
@@ -29,7 +28,7 @@ fn check_function(
     functions: &[Function],
     at: usize,
     function: &Function,
-    progress: &mut Progress,
+    progress: &mut Progress<TypeCode>,
 ) -> Result<(), Memory>
     requires { at < length functions.now }
     ensures { OnOk result (progress.new ≡ after progress.old
@@ -49,13 +48,10 @@ fn check_function(
 }
 
 /// Goes through all items.
-fn check_functions(alloc: Global, functions: &[Function]) -> Result<Progress, Memory>
+fn check_functions(alloc: Global, functions: &[Function]) -> Result<Progress<TypeCode>, Memory>
     ensures { IfOk result (λ progress. progress ≡ after start (function_codes functions.now 0 functions.now)) }
 {
-    let mut progress = Progress {
-        item: 0,
-        found: None,
-    };
+    let mut progress = Progress::start();
     for (at, function) in functions.iter().enumerate() {
         check_function(alloc, functions, at, function, &mut progress)?;
     }

@@ -8,7 +8,6 @@ mod expressions;
 mod functions;
 mod items;
 mod place;
-mod progress;
 mod refusal;
 mod scope;
 mod walk;

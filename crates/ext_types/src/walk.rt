@@ -1,12 +1,11 @@
 ghost use Rattle.std.specs.Prelude.{◌≡◌, [], ◌∷◌, ◌++◌, OnOk};
 ghost use Rattle.ext_mean.specs.Typing.{arm_name, block_codes, checked};
 ghost use Rattle.ext_types.specs.Places.{setting};
-ghost use Rattle.ext_types.specs.Progress.{after};
+ghost use Rattle.ext_mean.specs.Progress.{after};
 
 use crate::items::statement_code;
 use crate::place::Place;
-use crate::progress::Progress;
-use ext_mean::{Block, Kind, Name, Param, Statement};
+use ext_mean::{Block, Kind, Name, Param, Progress, Statement, TypeCode};
 use sp_base::Memory;
 use std::alloc::Global;
 
@@ -21,12 +20,12 @@ pub fn declare(alloc: Global, scope: &mut Vec<Param>, name: &Name, kind: Kind) -
 
 /// Goes through a block's items. The variables that it declares are in scope to its end.
 #[cycle(walk)]
-#[tactic(auto, using(crate::proofs::ProgressLemmas::progress_lemmas), unfolding(ext_mean::specs::Typing::block_codes))]
+#[tactic(auto, using(ext_mean::proofs::ProgressLemmas::progress_lemmas), unfolding(ext_mean::specs::Typing::block_codes))]
 pub fn check_block(
     alloc: Global,
     place: &Place,
     scope: &mut Vec<Param>,
-    progress: &mut Progress,
+    progress: &mut Progress<TypeCode>,
     block: &Block,
 ) -> Result<(), Memory>
     ensures codes { OnOk result
@@ -47,7 +46,7 @@ fn check_arm(
     alloc: Global,
     place: &Place,
     scope: &mut Vec<Param>,
-    progress: &mut Progress,
+    progress: &mut Progress<TypeCode>,
     some: &Name,
     found: &Block,
 ) -> Result<(), Memory>
@@ -64,12 +63,12 @@ fn check_arm(
 
 /// Goes through a statement's items, and brings into scope what it declares.
 #[cycle(walk)]
-#[tactic(auto, using(crate::proofs::ProgressLemmas::progress_lemmas), unfolding(ext_mean::specs::Typing::checked))]
+#[tactic(auto, using(ext_mean::proofs::ProgressLemmas::progress_lemmas), unfolding(ext_mean::specs::Typing::checked))]
 fn check_statement(
     alloc: Global,
     place: &Place,
     scope: &mut Vec<Param>,
-    progress: &mut Progress,
+    progress: &mut Progress<TypeCode>,
     statement: &Statement,
 ) -> Result<(), Memory>
     ensures codes { OnOk result (progress.new

@@ -1,7 +1,7 @@
 use Rattle.std.proofs.Common.{◌≡◌, ◌+◌, drop, sym, ◌∙◌}
 use Rattle.ext_mean.specs.Ownership.{owned_function, owned_functions}
-use Rattle.ext_borrow.specs.Progress.{after}
-use Rattle.ext_borrow.proofs.ProgressLemmas.{after-append}
+use Rattle.ext_mean.specs.Progress.{after}
+use Rattle.ext_mean.proofs.ProgressLemmas.{after-append}
 use Rattle.ext_borrow.proofs.PassLemmas.{drop-item}
 use Rattle.ext_borrow.proofs.check.check_functions.Goals as goal
 

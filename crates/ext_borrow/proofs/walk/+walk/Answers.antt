@@ -6,8 +6,9 @@ use Rattle.ext_mean.specs.declared.statement.Statement.TheVariants.{If, While, G
 use Rattle.ext_mean.specs.OwnedItems as scenes
 use Rattle.ext_mean.specs.OwnedItems.{looks, loops, newly_gone}
 use Rattle.ext_mean.specs.Ownership.{Passed, either, extended, leaves, owned, owned_block, with_arm, with_held}
-use Rattle.ext_borrow.specs.declared.progress.Progress.{Progress}
-use Rattle.ext_borrow.specs.Progress.{after, behind, joined}
+use Rattle.ext_mean.specs.declared.check_codes.BorrowCode.{BorrowCode}
+use Rattle.ext_mean.specs.declared.progress.Progress.{Progress}
+use Rattle.ext_mean.specs.Progress.{after, behind, joined}
 use Rattle.ext_borrow.specs.Scenes.{seen}
 use Rattle.ext_borrow.proofs.OwnedEquations.{passes-If, passes-While, passes-Get, passes-Multi}
 use Rattle.ext_borrow.proofs.PassLemmas.{drop-item, one-codes, one-gone, all-codes, all-gone, outer-stays, branches-codes, branches-gone, turns-codes, turns-gone, arms-codes, arms-gone, unheld, on-ok, on-ok-both, on-ok-three, scene-parts}
@@ -94,7 +95,7 @@ pass_while-returns-clause-passes t c =
     let body-is : owned_block loans c.args.body.now (seen c.enter.new.self.scene) c.enter.new.self.gone.items ≡ body = rw (c.enter.ensures.scene, c.enter.ensures.gone) refl in
     let q1 = c.pass_block.new.walk.progress in
     let gone1 = c.pass_block.new.walk.gone.items in
-    let q1-is : q1 ≡ after (behind was.progress) body.codes = passed.passes.codes ∙ ap (λ (z : Passed). after c.enter.new.self.progress z.codes) body-is ∙ ap (λ (z : Progress). after z body.codes) entered.progress in
+    let q1-is : q1 ≡ after (behind was.progress) body.codes = passed.passes.codes ∙ ap (λ (z : Passed). after c.enter.new.self.progress z.codes) body-is ∙ ap (λ (z : Progress BorrowCode). after z body.codes) entered.progress in
     let gone1-is : gone1 ≡ body.gone = passed.passes.gone ∙ ap (λ (z : Passed). z.gone) body-is in
     let front = c.as_slice.result.now in
     let before : front ≡ gone = c.as_slice.ensures.value ∙ c.in_ok-before.ensures in
@@ -103,7 +104,7 @@ pass_while-returns-clause-passes t c =
     let left = turns-gone own body whole gone gone1 was.progress q1 whole-is q1-is gone1-is in
     let same = ap (λ (z : scenes.Scene). joined (after place (loops z front (test ∷ []) (newly_gone front gone1) ∷ [])) q1) scene-is
     ∙ ap (λ (z : List Bool). joined (after place (loops scene z (test ∷ []) (newly_gone z gone1) ∷ [])) q1) before
-    ∙ ap (λ (z : Progress). joined (after z (own (newly_gone gone gone1) ∷ [])) q1) entered.place in
+    ∙ ap (λ (z : Progress BorrowCode). joined (after z (own (newly_gone gone gone1) ∷ [])) q1) entered.place in
     on-ok-both c.leave_while.result _ _ _ (λ p g. record {
       codes = p ∙ same ∙ codes;
       gone = g ∙ ap (λ (z : List Bool). extended z gone1) before ∙ left;
@@ -174,7 +175,7 @@ pass_multiget-returns-clause-passes t c =
     ap (λ (z : scenes.Scene). owned_block loans c.args.arms.1.now (with_arm z (length c.hold.new.walk.gone.items) c.args.arms.0.now) (c.hold.new.walk.gone.items ++ false ∷ [])) arms-is
     ∙ ap (λ (z : List Bool). owned_block loans c.args.arms.1.now (with_arm arms (length z) c.args.arms.0.now) (z ++ false ∷ [])) hold-gone in
     let hold-progress : c.hold.new.walk.progress ≡ behind was.progress = c.hold.ensures.progress ∙ entered.progress in
-    let q1-is : q1 ≡ after (behind was.progress) first.codes = passed.passes.codes ∙ ap (λ (z : Passed). after c.hold.new.walk.progress z.codes) first-is ∙ ap (λ (z : Progress). after z first.codes) hold-progress in
+    let q1-is : q1 ≡ after (behind was.progress) first.codes = passed.passes.codes ∙ ap (λ (z : Passed). after c.hold.new.walk.progress z.codes) first-is ∙ ap (λ (z : Progress BorrowCode). after z first.codes) hold-progress in
     let gone1-is : gone1 ≡ first.gone = turned.first ∙ passed.passes.gone ∙ ap (λ (z : Passed). z.gone) first-is in
     let front = c.as_slice.result.now in
     let before = c.as_slice.ensures.value ∙ c.in_ok-before.ensures in
@@ -196,7 +197,7 @@ pass_multiget-returns-clause-passes t c =
     let same = ap (λ (z : scenes.Scene). joined (after place (loops z front2 operands (newly_gone front2 front3 || newly_gone front2 gone3) ∷ [])) q2) scene-is
     ∙ ap (λ (z : List Bool). joined (after place (loops scene z operands (newly_gone z front3 || newly_gone z gone3) ∷ [])) q2) before2
     ∙ ap (λ (z : List Bool). joined (after place (own (newly_gone gone z || newly_gone gone gone3) ∷ [])) q2) since
-    ∙ ap (λ (z : Progress). joined (after z (own (newly_gone gone gone1 || newly_gone gone gone3) ∷ [])) q2) entered.place in
+    ∙ ap (λ (z : Progress BorrowCode). joined (after z (own (newly_gone gone gone1 || newly_gone gone gone3) ∷ [])) q2) entered.place in
     record {
       codes = p ∙ same ∙ codes;
       gone = g ∙ ap (λ (z : List Bool). extended z gone3) before2 ∙ left;

@@ -5,7 +5,7 @@ use Rattle.ext_mean.specs.declared.statement.Statement.{size-Statement}
 use Rattle.ext_mean.specs.declared.statement.Block.{size-Block}
 use Rattle.ext_mean.specs.Items.{last_is_return}
 use Rattle.ext_mean.specs.Ownership.{owned, pass_in_order}
-use Rattle.ext_borrow.specs.Progress.{after}
+use Rattle.ext_mean.specs.Progress.{after}
 use Rattle.ext_borrow.specs.Scenes.{seen}
 use Rattle.ext_borrow.proofs.walk.+walk.Given as goal
 

@@ -1,7 +1,7 @@
 use Rattle.std.proofs.Common.{◌≡◌, ◌+◌, ◌==◌, ◌∷◌, length, take, drop, sym, ◌∙◌}
 use Rattle.ext_mean.specs.Typing.{block_codes, function_codes, head_code, setting_of}
-use Rattle.ext_types.specs.Progress.{after}
-use Rattle.ext_types.proofs.ProgressLemmas.{after-append}
+use Rattle.ext_mean.specs.Progress.{after}
+use Rattle.ext_mean.proofs.ProgressLemmas.{after-append}
 use Rattle.ext_types.proofs.WalkLemmas.{drop-item}
 use Rattle.ext_types.proofs.check.check_functions.Goals as goal
 

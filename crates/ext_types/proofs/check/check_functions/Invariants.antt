@@ -1,7 +1,7 @@
 -- the functions that are left lead to where all of them do
 use Rattle.std.proofs.Common.{◌≡◌, drop}
 use Rattle.ext_mean.specs.Typing.{function_codes}
-use Rattle.ext_types.specs.Progress.{after, start}
+use Rattle.ext_mean.specs.Progress.{after, start}
 use Rattle.ext_types.proofs.check.check_functions.Given as goal
 
 abbrev pub invariant-loop-at : goal.invariant-loop-at

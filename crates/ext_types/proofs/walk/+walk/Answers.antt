@@ -2,7 +2,8 @@ use Rattle.std.proofs.Common.{◌≡◌, ◌∷◌, ◌++◌, OnOk, inl, inr, re
 use Rattle.ext_mean.specs.declared.statement.Statement.TheViews.{out-Statement}
 use Rattle.ext_mean.specs.TypesOfItems.{statement_code}
 use Rattle.ext_mean.specs.Typing.{arm_name, block_codes, checked}
-use Rattle.ext_types.specs.declared.progress.Progress.{Progress}
+use Rattle.ext_mean.specs.declared.check_codes.TypeCode.{TypeCode}
+use Rattle.ext_mean.specs.declared.progress.Progress.{Progress}
 use Rattle.ext_types.specs.Places.{setting}
 use Rattle.ext_types.proofs.TypingEquations.{codes-If, codes-While, codes-Get, codes-Multi}
 use Rattle.ext_types.proofs.WalkLemmas.{one-statement, no-statement, outer-stays, two-blocks, one-block}
@@ -27,7 +28,7 @@ check_statement-returns-in_ok-check_block-in-If-clause-codes t c =
     let own : c.statement_code-code.result ≡ statement_code s scope (out-Statement c.args.statement.now) = cc in
     let same : block_codes s c.in-If.no c.check_block.new.scope.items ≡ block_codes s c.in-If.no scope = ap (block_codes s c.in-If.no) c.in_ok-check_block-in-If.ensures.scope in
     let e = two-blocks c.args.progress.now c.note.new.self c.check_block.new.progress _ _ _ _ _ _ c.in_ok-note.ensures.ok c.in_ok-check_block-in-If.ensures.codes same own whole in
-    subst (λ (q : Progress). OnOk c.check_block-in-If.result (c.check_block-in-If.new.progress ≡ q)) e c.check_block-in-If.ensures.codes
+    subst (λ (q : Progress TypeCode). OnOk c.check_block-in-If.result (c.check_block-in-If.new.progress ≡ q)) e c.check_block-in-If.ensures.codes
 
 pub check_statement-returns-in-While-clause-codes :
     goal.check_statement-returns-in-While-clause-codes
@@ -38,7 +39,7 @@ check_statement-returns-in-While-clause-codes t c =
     let own : c.statement_code-code.result ≡ statement_code s scope (out-Statement c.args.statement.now) = cc in
     let same : block_codes s c.in-While.body scope ≡ block_codes s c.in-While.body scope = refl in
     let e = one-block c.args.progress.now c.note.new.self _ _ _ _ _ c.in_ok-note.ensures.ok same own whole in
-    subst (λ (q : Progress). OnOk c.check_block-in-While.result (c.check_block-in-While.new.progress ≡ q)) e c.check_block-in-While.ensures.codes
+    subst (λ (q : Progress TypeCode). OnOk c.check_block-in-While.result (c.check_block-in-While.new.progress ≡ q)) e c.check_block-in-While.ensures.codes
 
 pub check_statement-returns-in_ok-check_arm-in-Get-clause-codes :
     goal.check_statement-returns-in_ok-check_arm-in-Get-clause-codes
@@ -52,4 +53,4 @@ check_statement-returns-in_ok-check_arm-in-Get-clause-codes t c =
     let own : c.statement_code-code.result ≡ statement_code s scope (out-Statement c.args.statement.now) = cc in
     let same : block_codes s c.in-Get.no c.check_arm.new.scope.items ≡ block_codes s c.in-Get.no scope = ap (block_codes s c.in-Get.no) c.in_ok-check_arm-in-Get.ensures.scope in
     let e = two-blocks c.args.progress.now c.note.new.self c.check_arm.new.progress _ _ _ _ _ _ c.in_ok-note.ensures.ok c.in_ok-check_arm-in-Get.ensures.codes same own whole in
-    subst (λ (q : Progress). OnOk c.check_block-in-Get.result (c.check_block-in-Get.new.progress ≡ q)) e c.check_block-in-Get.ensures.codes
+    subst (λ (q : Progress TypeCode). OnOk c.check_block-in-Get.result (c.check_block-in-Get.new.progress ≡ q)) e c.check_block-in-Get.ensures.codes

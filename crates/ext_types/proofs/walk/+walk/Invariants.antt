@@ -1,7 +1,7 @@
 -- what is left of a block's items leads to where all of them do
 use Rattle.std.proofs.Common.{◌≡◌, drop, take, length, map}
 use Rattle.ext_mean.specs.Typing.{in_order, checked}
-use Rattle.ext_types.specs.Progress.{after}
+use Rattle.ext_mean.specs.Progress.{after}
 use Rattle.ext_types.specs.Places.{setting}
 use Rattle.ext_types.proofs.walk.+walk.Given as goal
 

@@ -1,21 +1,30 @@
 ghost use Rattle.std.specs.Prelude.{◌≡◌, ◌+◌, ◌^◌, IfOk, OnOk, OnErr, [], ◌∷◌};
-ghost use Rattle.ext_borrow.specs.Progress.{after, behind, joined};
+ghost use Rattle.ext_mean.specs.Progress.{after, behind, joined, start};
 
-use ext_mean::BorrowCode;
 use sp_base::Memory;
 
-/// How far a check has come through the items.
+/// How far a check has come through the items of a program, and what it has found, by its codes.
 #[derive(Clone, Copy, Debug)]
-pub struct Progress {
+pub struct Progress<C> {
     /// The number of the next item.
     pub item: u32,
     /// The first faulty item and its code.
-    pub found: Option<(u32, BorrowCode)>,
+    pub found: Option<(u32, C)>,
 }
 
-impl Progress {
+impl<C: Copy> Progress<C> {
+    /// In front of all items.
+    pub fn start() -> Progress<C>
+        ensures { result ≡ start }
+    {
+        Progress {
+            item: 0,
+            found: None,
+        }
+    }
+
     /// Goes on behind one item.
-    pub fn note(&mut self, code: Option<BorrowCode>) -> Result<(), Memory>
+    pub fn note(&mut self, code: Option<C>) -> Result<(), Memory>
         ensures ok { OnOk result (self.new ≡ after self.old (code ∷ [])) }
         // No memory is taken: only an item past the numbers of 32 bits is too many.
         ensures full { OnErr result (self.old.item + 1 ≡ 2 ^ 32) }
@@ -35,7 +44,7 @@ impl Progress {
     }
 
     /// The place behind this item, with nothing found.
-    pub fn behind(&self) -> Result<Progress, Memory>
+    pub fn behind(&self) -> Result<Progress<C>, Memory>
         ensures ok { IfOk result (λ progress. progress ≡ behind self.now) }
         // No memory is taken: only an item past the numbers of 32 bits is too many.
         ensures full { OnErr result (self.now.item + 1 ≡ 2 ^ 32) }
@@ -47,11 +56,12 @@ impl Progress {
     }
 
     /// Goes on behind items that were gone through apart, from the place behind this one.
-    pub fn join(&mut self, inner: Progress)
+    pub fn join(&mut self, inner: Progress<C>)
         ensures { self.new ≡ joined self.old inner }
     {
-        if self.found.is_none() {
-            self.found = inner.found;
+        match self.found {
+            Some(_) => {}
+            None => self.found = inner.found,
         }
         self.item = inner.item;
     }
