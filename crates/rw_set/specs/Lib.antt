@@ -1,3 +1,4 @@
 pub mod ReadLists
 pub mod Weight
 pub mod Order
+pub mod Sending

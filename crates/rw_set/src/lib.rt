@@ -4,10 +4,12 @@
 mod finished;
 mod read_set;
 mod search;
+mod sent;
 mod weight;
 
 pub use finished::Finished;
 pub use read_set::ReadSet;
+pub use sent::Sent;
 
 /// The most reads of one call: each costs 16 units of a budget of at most 100,000.
 pub const MOST_READS: usize = 6_250;

@@ -4,6 +4,7 @@
 mod ext;
 mod ext_fault;
 mod laws;
+mod parked;
 mod phase;
 mod task;
 mod turned;
@@ -14,6 +15,7 @@ pub use laws::{
     calls_begin_as_tasks, reads_are_paid, records_keep_tasks, turns_keep_tasks,
     turns_raise_the_units_spent, unfinished_calls_had_few_turns,
 };
+pub use parked::Parked;
 pub use phase::Phase;
 pub use task::Task;
 pub use turned::Turned;

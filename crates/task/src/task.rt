@@ -203,6 +203,21 @@ impl Task {
         &self.ext
     }
 
+    /// The call, its extension and what it has read, without the run.
+    pub(crate) fn into_parts(self) -> (Call, Arc<Ext>, ReadSet)
+        ensures call { result.0 ≡ self.call }
+        ensures ext { arc_value result.1 ≡ self.ext }
+        ensures reads { result.2 ≡ self.reads }
+    {
+        let Task {
+            call,
+            ext,
+            reads,
+            ..
+        } = self;
+        (call, ext, reads)
+    }
+
     /// The run that has ended, with exactly the parts of the task.
     pub fn finish(self) -> Finished
         requires { HasEnded self.phase }
