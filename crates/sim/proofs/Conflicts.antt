@@ -14,7 +14,8 @@ use Rattle.book.specs.declared.answers.Install.TheVariants as install
 use Rattle.book.specs.declared.answers.Put.{Put}
 use Rattle.book.specs.declared.answers.Put.TheVariants as put
 use Rattle.journal.specs.declared.entry.Entry.{Entry}
-use Rattle.book.specs.Verdict.{verdict, entry_of}
+use Rattle.journal.specs.declared.entry.Entry.TheVariants as entry
+use Rattle.book.specs.Verdict.{entry_of, install_answer, put_answer, verdict}
 use Rattle.book.proofs.Verdicts.{conflicts-name-moved-reads}
 use Rattle.report.specs.declared.line.Line.{Line}
 use Rattle.sched_text.specs.declared.event.Event.{Event}
@@ -24,23 +25,22 @@ use Rattle.task.specs.declared.phase.Phase.TheVariants as phase
 use Rattle.task.specs.Extensions.{ExtValue}
 use Rattle.task.specs.Turning.{Live, turn_of}
 use Rattle.sim.specs.Laws.{ConflictsHaveMoved, TellsMoved, PlaysTellMovedReads}
-use Rattle.sim.specs.Play.{Answer, Judgement, Accepted, Refused, Nothing, Told, Follows, no_event, one_event, Drains, no_turn, one_turn, begin_told, call_of, commit_told, drain_quantum, drain_turn, end_told, event_of, ext_event, in_drain, install_told, put_told, steal_first, turn_event, turn_first, turned}
+use Rattle.sim.specs.Play.{Answer, Judgement, Accepted, Refused, Nothing, Told, Follows, no_event, one_event, Drains, no_turn, one_turn, begin_told, call_of, commit_said, drain_quantum, drain_turn, event_of, ext_event, in_drain, install_said, of_call, put_said, steal_first, turn_event, turn_first, turned}
 use Rattle.sim.specs.State.{SimState, queue_of, live_call, with_queue}
 
-put-moved : (state : SimState) (entry : Entry) (given : Put) → TellsMoved (put_told state entry given).0
-put-moved state entry (put.Done n) = tt
-put-moved state entry put.Denied = tt
-put-moved state entry (put.Full at) = tt
-put-moved state entry put.Memory = tt
+put-moved : (given : Put) → TellsMoved (put_said given)
+put-moved (put.Done n) = tt
+put-moved put.Denied = tt
+put-moved (put.Full at) = tt
+put-moved put.Memory = tt
 
-install-moved : (state : SimState) (tenant : TenantId) (ext : ExtValue) (given : Install)
-    → TellsMoved (install_told state tenant ext given).0
-install-moved state tenant ext (install.Installed n number) = tt
-install-moved state tenant ext (install.Full at) = tt
-install-moved state tenant ext install.Memory = tt
+install-moved : (given : Install) → TellsMoved (install_said given)
+install-moved (install.Installed n number) = tt
+install-moved (install.Full at) = tt
+install-moved install.Memory = tt
 
 ext-moved : (state : SimState) (tenant : TenantId) (text : List ℕ) (judgement : Judgement) → TellsMoved (ext_event state tenant text judgement).0
-ext-moved state tenant text (Accepted program) = install-moved state tenant (record { text = text; program = program }) _
+ext-moved state tenant text (Accepted program) = install-moved (install_answer state.limit state.journal tenant (entry.Install tenant text))
 ext-moved state tenant text (Refused at code) = tt
 ext-moved state tenant text Nothing = tt
 
@@ -51,20 +51,20 @@ begin-moved state worker call None None = tt
 begin-moved state worker call None (Some ext) = tt
 
 -- what is said of a verdict, by its kind
-commit-moved : (state : SimState) (call : Call) (entry : Entry) (outcome : Outcome) (reads : List ReadItem) (given : Commit)
-    → verdict state.limit state.journal call entry outcome reads ≡ given → TellsMoved (commit_told state call entry given).0
-commit-moved state call entry outcome reads (commit.Committed n shown) is = tt
-commit-moved state call entry outcome reads (commit.Stale last at) is = tt
-commit-moved state call entry outcome reads (commit.Conflict table key read read_at now now_at) is =
-    (conflicts-name-moved-reads state.limit state.journal call entry outcome reads table key read read_at now now_at is).differ
-commit-moved state call entry outcome reads (commit.Full at) is = tt
-commit-moved state call entry outcome reads commit.Memory is = tt
+commit-moved : (limit : ℕ) (journal : List Entry) (call : Call) (entry : Entry) (outcome : Outcome) (reads : List ReadItem) (given : Commit)
+    → verdict limit journal call entry outcome reads ≡ given → TellsMoved (of_call call (commit_said given))
+commit-moved limit journal call entry outcome reads (commit.Committed n shown) is = tt
+commit-moved limit journal call entry outcome reads (commit.Stale last at) is = tt
+commit-moved limit journal call entry outcome reads (commit.Conflict table key read read_at now now_at) is =
+    (conflicts-name-moved-reads limit journal call entry outcome reads table key read read_at now now_at is).differ
+commit-moved limit journal call entry outcome reads (commit.Full at) is = tt
+commit-moved limit journal call entry outcome reads commit.Memory is = tt
 
 turned-moved : (state : SimState) (worker : ℕ) (live : Live) (stands : Phase) → TellsMoved (turned state worker live stands).0
 turned-moved state worker live phase.Ready = tt
 turned-moved state worker live (phase.Waiting table key) = tt
 turned-moved state worker live (phase.Ended outcome writes) =
-    commit-moved state live.call (entry_of live.call outcome writes live.reads) outcome live.reads _ refl
+    commit-moved state.limit state.journal live.call (entry_of live.call outcome writes live.reads) outcome live.reads _ refl
 
 first-moved : (state : SimState) (worker quantum : ℕ) (queue : List Live) → TellsMoved (turn_first state worker quantum queue).0
 first-moved state worker quantum [] = tt
@@ -77,7 +77,8 @@ steal-moved state worker other (live ∷ queue) = tt
 
 -- the line of an event tells of a moved read, if it tells a conflict
 pub event-moved : (state : SimState) (event : Event) (judgement : Judgement) → TellsMoved (event_of state event judgement).0
-event-moved state (event.Put tenant table key value) judgement = put-moved state _ _
+event-moved state (event.Put tenant table key value) judgement =
+    put-moved (put_answer state.grants state.limit state.journal tenant table (entry.Put tenant table key value))
 event-moved state (event.Ext tenant text) judgement = ext-moved state tenant text judgement
 event-moved state (event.Begin worker tenant asked) judgement =
     begin-moved state worker (call_of tenant asked) (live_call state.queues _) _

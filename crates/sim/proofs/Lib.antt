@@ -5,3 +5,10 @@ pub mod Totals
 pub mod Indexing
 pub mod Growing
 pub mod Judging
+pub mod Reading
+pub mod Ending
+pub mod Opening
+pub mod Turning
+pub mod Busy
+pub mod Eventing
+pub mod Drain

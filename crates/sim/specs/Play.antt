@@ -19,7 +19,7 @@ use Rattle.book.specs.declared.answers.Put.TheVariants as put
 use Rattle.journal.specs.declared.entry.Entry.{Entry}
 use Rattle.journal.specs.declared.entry.Entry.TheVariants as entry
 use Rattle.journal.specs.Granted.{granted}
-use Rattle.book.specs.Verdict.{entry_of, install_answer, item_at, put_answer, verdict}
+use Rattle.book.specs.Verdict.{after_commit, after_install, after_put, entry_of, install_answer, item_at, put_answer, verdict}
 use Rattle.report.specs.declared.line.Line.{Line}
 use Rattle.report.specs.declared.line.Line.TheVariants as line
 use Rattle.report.specs.declared.line.Prefix.{Prefix}
@@ -34,7 +34,7 @@ use Rattle.task.specs.declared.phase.Phase.{Phase}
 use Rattle.task.specs.declared.phase.Phase.TheVariants as phase
 use Rattle.task.specs.Extensions.{ExtValue}
 use Rattle.task.specs.Turning.{Live, begun, given, turn_of}
-use Rattle.sim.specs.State.{SimState, exts_of, queue_of, live_call, with_entry, with_queue, queued}
+use Rattle.sim.specs.State.{SimState, exts_of, queue_of, live_call, with_journal, with_queue, queued}
 
 -- ---- Putting and installing
 
@@ -42,12 +42,15 @@ use Rattle.sim.specs.State.{SimState, exts_of, queue_of, live_call, with_entry, 
 abbrev pub Told : Type 0
 Told = Line × SimState
 
--- a put has its entry, or changes nothing
+-- how a put is told; it is never want of memory
+abbrev pub put_said : Put → Line
+put_said (put.Done n) = line.Put n
+put_said put.Denied = line.Denied
+put_said (put.Full at) = line.Full
+put_said put.Memory = line.Memory
+
 abbrev pub put_told : SimState → Entry → Put → Told
-put_told state entry (put.Done n) = (line.Put n, with_entry state entry)
-put_told state entry put.Denied = (line.Denied, state)
-put_told state entry (put.Full at) = (line.Full, state)
-put_told state entry put.Memory = (line.Memory, state)
+put_told state entry given = (put_said given, with_journal state (after_put given state.journal entry))
 
 abbrev pub put_event : SimState → TenantId → TableId → List ℕ → List ℕ → Told
 put_event state tenant table key value =
@@ -61,14 +64,25 @@ pub data Judgement : Type 0 where
   Refused : ℕ → Refusal → Judgement
   Nothing : Judgement
 
--- an installed extension has its entry, and is the last of its tenant's; else nothing changes
+-- how an installation is told; it is never want of memory
+abbrev pub install_said : Install → Line
+install_said (install.Installed n number) = line.Installed n number
+install_said (install.Full at) = line.Full
+install_said install.Memory = line.Memory
+
+-- an installed extension is the last of its tenant's
+abbrev pub after_installed : Install → List (TenantId × ExtValue) → TenantId → ExtValue → List (TenantId × ExtValue)
+after_installed (install.Installed n number) installed tenant ext = installed ++ (tenant, ext) ∷ []
+after_installed _ installed tenant ext = installed
+
 abbrev pub install_told : SimState → TenantId → ExtValue → Install → Told
-install_told state tenant ext (install.Installed n number) = (
-  line.Installed n number,
-  record (with_entry state (entry.Install tenant ext.text)) { installed = state.installed ++ (tenant, ext) ∷ [] },
+install_told state tenant ext given = (
+  install_said given,
+  record state {
+    journal = after_install given state.journal (entry.Install tenant ext.text);
+    installed = after_installed given state.installed tenant ext;
+  },
 )
-install_told state tenant ext (install.Full at) = (line.Full, state)
-install_told state tenant ext install.Memory = (line.Memory, state)
 
 -- a refused text is told before the journal is looked at
 abbrev pub ext_event : SimState → TenantId → List ℕ → Judgement → Told
@@ -110,15 +124,17 @@ begin_event state worker call =
     begin_told state worker call (live_call state.queues call.caller)
     (slice_get (exts_of state.installed call.caller.tenant) call.ext.0)
 
--- how a commit is told
+-- how a commit is told; a verdict is never want of memory
+abbrev pub commit_said : Commit → Said
+commit_said (commit.Committed n outcome) = said.Committed n outcome
+commit_said (commit.Stale last at) = said.Stale last
+commit_said (commit.Conflict table key read read_at now now_at) = said.Conflict table key read now
+commit_said (commit.Full at) = said.Full
+commit_said commit.Memory = said.Memory
+
 abbrev pub commit_told : SimState → Call → Entry → Commit → Told
-commit_told state call entry (commit.Committed n outcome) =
-    (of_call call (said.Committed n outcome), with_entry state entry)
-commit_told state call entry (commit.Stale last at) = (of_call call (said.Stale last), state)
-commit_told state call entry (commit.Conflict table key read read_at now now_at) =
-    (of_call call (said.Conflict table key read now), state)
-commit_told state call entry (commit.Full at) = (of_call call said.Full, state)
-commit_told state call entry commit.Memory = (of_call call said.Memory, state)
+commit_told state call entry given =
+    (of_call call (commit_said given), with_journal state (after_commit given state.journal entry))
 
 -- a call ends by the verdict on its entry
 abbrev pub end_told : SimState → Live → Outcome → List Write → Told

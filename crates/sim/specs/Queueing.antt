@@ -1,5 +1,5 @@
 -- What the queues and the index of callers tell of themselves.
-use Rattle.std.specs.Prelude.{◌≡◌, ℕ, ◌==◌, ◌&&◌, Bool, List, [], ◌∷◌, ◌++◌, Option, slice_set}
+use Rattle.std.specs.Prelude.{◌≡◌, ◌≢◌, ◌<◌, ℕ, length, ◌==◌, ◌&&◌, Bool, List, [], ◌∷◌, ◌++◌, Option, slice_set}
 use Rattle.std.specs.HashMap.{get}
 use Rattle.sp_base.specs.declared.numbers.Caller.{Caller}
 use Rattle.task.specs.Turning.{Live}
@@ -28,3 +28,8 @@ same_numbers a b = (a.0 == b.0) && (a.1 == b.1)
 -- the number of the caller's live call, by the index
 abbrev pub number_of : Callers → Caller → Option ℕ
 number_of callers caller = get same_numbers callers.numbers (caller.tenant.0, caller.number)
+
+-- there is such a worker, and it has a call
+pub record HasCall (queues : List (List Live)) (worker : ℕ) : Type 0 where
+  pub small : worker < length queues
+  pub some : queue_of queues worker ≢ []

@@ -40,9 +40,9 @@ abbrev pub live_call : List (List Live) → Caller → Option Live
 live_call [] caller = None
 live_call (queue ∷ queues) caller = or_first_of queue caller (live_call queues caller)
 
--- the state with one more entry
-abbrev pub with_entry : SimState → Entry → SimState
-with_entry state entry = record state { journal = state.journal ++ entry ∷ [] }
+-- the state with this journal
+abbrev pub with_journal : SimState → List Entry → SimState
+with_journal state journal = record state { journal = journal }
 
 -- the state with these live calls for a worker
 abbrev pub with_queue : SimState → ℕ → List Live → SimState

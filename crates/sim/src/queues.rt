@@ -1,6 +1,6 @@
-ghost use Rattle.std.specs.Prelude.{◌≡◌, ◌<◌, ◌≤◌, IfOk, OnOk, MatchOption, Some, length, drop};
+ghost use Rattle.std.specs.Prelude.{◌≡◌, ◌<◌, ◌≤◌, IfOk, OnOk, IfSome, MatchOption, Some, length, drop};
 ghost use Rattle.sim.specs.Play.{idle_workers, first_busy, or_else};
-ghost use Rattle.sim.specs.Queueing.{Takes, TakesNothing, with_back};
+ghost use Rattle.sim.specs.Queueing.{HasCall, Takes, TakesNothing, with_back};
 
 use crate::queue::Queue;
 use sp_base::Memory;
@@ -62,7 +62,9 @@ impl Queues {
 
     /// The first worker that has a call, from this one on, and then from worker 0 on.
     pub fn busy(&self, next: u32) -> Option<u32>
-        ensures { result ≡ or_else (first_busy next (drop next self.now)) (first_busy 0 self.now) }
+        ensures first { result ≡ or_else (first_busy next (drop next self.now)) (first_busy 0 self.now) }
+        ensures found { IfSome result (HasCall self.now) }
+        ensures few { length self.now ≤ 64 }
     {
         match self.busy_from(next) {
             Some(worker) => Some(worker),
@@ -71,7 +73,8 @@ impl Queues {
     }
 
     fn busy_from(&self, first: u32) -> Option<u32>
-        ensures { result ≡ first_busy first (drop first self.now) }
+        ensures first { result ≡ first_busy first (drop first self.now) }
+        ensures few { length self.now ≤ 64 }
     {
         let mut worker = first;
         while (worker as usize) < self.queues.len() {

@@ -6,22 +6,27 @@ ghost use Rattle.sim.specs.Standing.{DrainPlayed, FitsEvent, Played, Stands, Sta
 ghost use Rattle.sim.specs.State.{SimState};
 
 use crate::callers::Callers;
+use crate::events::call_of;
 use crate::queues::Queues;
 use book::Book;
+use records::Grants;
 use report::Line;
 use sched_text::{Event, Head};
 use sp_base::{MOST_ENTRIES, Memory};
 use std::alloc::Global;
 
+/// The units of one turn of the drain.
+const DRAIN_QUANTUM: u32 = 10_000;
+
 /// The play of a script, one event after another.
 #[derive(Drop)]
 pub struct Sim {
-    alloc: Global,
-    book: Book,
-    queues: Queues,
-    callers: Callers,
+    pub(crate) alloc: Global,
+    pub(crate) book: Book,
+    pub(crate) queues: Queues,
+    pub(crate) callers: Callers,
     /// The worker that the drain looks at next.
-    next: u32,
+    pub(crate) next: u32,
 }
 
 impl Sim {
@@ -33,7 +38,21 @@ impl Sim {
         ensures stands { IfOk result (λ sim. StandsAt sim (opened head)) }
         ensures workers { IfOk result (λ sim. workers_of sim ≡ head.workers) }
     {
-        Err(Memory)
+        let Head {
+            rights,
+            limit,
+            workers,
+            ..
+        } = head;
+        let grants = Grants::of(rights.into_vec());
+        let queues = Queues::new(alloc, workers)?;
+        Ok(Sim {
+            alloc,
+            book: Book::new(alloc, grants, limit, true),
+            queues,
+            callers: Callers::new(alloc),
+            next: 0,
+        })
     }
 
     /// Plays one event. After `Memory` the play is given up.
@@ -43,7 +62,23 @@ impl Sim {
         ensures played { IfOk result (Played self.old self.new event) }
         ensures workers { OnOk result (workers_of self.new ≡ workers_of self.old) }
     {
-        Err(Memory)
+        match event {
+            Event::Put {
+                tenant,
+                table,
+                key,
+                value,
+            } => self.put(tenant, table, key, value),
+            Event::Ext { tenant, text } => self.install(tenant, text),
+            Event::Begin {
+                worker,
+                tenant,
+                asked,
+            } => self.begin(worker, call_of(tenant, asked)),
+            Event::Turn { worker, quantum } => self.turn(worker, quantum),
+            Event::Steal { worker, from } => self.steal(worker, from),
+            Event::Away { .. } | Event::Cut { .. } => Ok(Line::Idle),
+        }
     }
 
     /// Whether no call is live.
@@ -62,7 +97,12 @@ impl Sim {
         ensures falls { IfOk result (λ told. IfSome told (λ _. units_left self.new < units_left self.old)) }
         ensures workers { OnOk result (workers_of self.new ≡ workers_of self.old) }
     {
-        Err(Memory)
+        let Some(worker) = self.queues.busy(self.next) else {
+            return Ok(None);
+        };
+        self.next = worker + 1;
+        let line = self.turn(worker, DRAIN_QUANTUM)?;
+        Ok(Some(line))
     }
 
     /// The book as it stands.

@@ -1,0 +1,37 @@
+-- The record that was wanted may be read, and joins the reads.
+use Rattle.std.proofs.Common.{◌≡◌, List, ℕ, sym, ap, subst, ◌∙◌}
+use Rattle.std.specs.Prelude.{IsTrue}
+use Rattle.sp_base.specs.declared.numbers.TableId.{TableId}
+use Rattle.sp_base.specs.declared.reads.ReadItem.{ReadItem}
+use Rattle.sp_base.specs.declared.calls.Call.{Call}
+use Rattle.sp_base.specs.declared.rights.Level.{Level}
+use Rattle.sp_base.specs.RightsList.{can_read}
+use Rattle.journal.specs.Granted.{granted}
+use Rattle.book.specs.Verdict.{item_at}
+use Rattle.task.specs.declared.phase.Phase.{Phase}
+use Rattle.task.specs.declared.phase.Phase.TheVariants.{Waiting}
+use Rattle.task.specs.Tasks.{IsTask}
+use Rattle.task.specs.Turning.{Live}
+use Rattle.sim.proofs.Reading.{found-item, not-denied, waits-readable}
+use Rattle.sim.proofs.sim.Sim.read.Goals as goal
+
+pub unreachable-requires : goal.unreachable-requires
+unreachable-requires c =
+    let journal = c.requires.stands.0 in
+    let stands = c.requires.stands.1 in
+    let live = c.args.task in
+    let is : IsTask live = subst IsTask c.task.view_is c.task.invariant.0 in
+    let readable : IsTrue (can_read live.rights c.args.table.0) = waits-readable live c.args.table c.args.key is c.requires.waits in
+    let own = (c.requires.ran journal stands).own in
+    let may : IsTrue (can_read (granted c.args.self.now.book.grants journal live.call.caller.tenant) c.args.table.0) =
+    subst (λ (rights : List (TableId × Level)). IsTrue (can_read rights c.args.table.0)) own readable in
+    not-denied c.args.self.now.book.grants journal live.call.caller.tenant c.args.table c.args.key c.read.result may
+    (rw c.call.ensures at (c.read.ensures.answer journal stands)) c.in-Denied.is
+
+pub give-requires-clause-wanted : goal.give-requires-clause-wanted
+give-requires-clause-wanted c =
+    let journal = c.requires.stands.0 in
+    let item : c.in-Found.item ≡ item_at journal c.args.table c.args.key =
+    found-item c.args.self.now.book.grants journal _ c.args.table c.args.key c.in-Found.item c.read.result
+    (c.read.ensures.answer journal c.requires.stands.1) c.in-Found.is in
+    c.requires.waits ∙ ap (λ (read : ReadItem). Waiting read.table read.key) (sym item)
