@@ -3,6 +3,6 @@
 #![tactic(auto)]
 
 #[cfg(test)]
-mod framing;
-#[cfg(test)]
 mod messages;
+#[cfg(test)]
+mod streams;
