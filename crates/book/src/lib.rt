@@ -17,6 +17,3 @@ mod reads;
 pub use answers::{Commit, Install, Put, Read};
 pub use book::Book;
 pub use laws::{audited_is_legal, conflicts_name_moved_reads, legal_killed_are_spent};
-
-#[cfg(test)]
-mod tests;
