@@ -3,12 +3,6 @@ use Rattle.std.specs.Prelude.{slice_get}
 use Rattle.std.proofs.Common.{◌≡◌, ℕ, ◌+◌, Option, Some, None, List, [], ◌∷◌, refl, ◌∙◌}
 use Rattle.sp_base.specs.declared.calls.Call.{Call}
 use Rattle.sp_base.specs.declared.numbers.TenantId.{TenantId}
-use Rattle.book.specs.declared.answers.Commit.{Commit}
-use Rattle.book.specs.declared.answers.Commit.TheVariants as commit
-use Rattle.book.specs.declared.answers.Install.{Install}
-use Rattle.book.specs.declared.answers.Install.TheVariants as install
-use Rattle.book.specs.declared.answers.Put.{Put}
-use Rattle.book.specs.declared.answers.Put.TheVariants as put
 use Rattle.journal.specs.declared.entry.Entry.{Entry}
 use Rattle.report.specs.declared.line.Line.{Line}
 use Rattle.sched_text.specs.declared.event.Event.{Event}
@@ -17,22 +11,11 @@ use Rattle.task.specs.declared.phase.Phase.{Phase}
 use Rattle.task.specs.declared.phase.Phase.TheVariants as phase
 use Rattle.task.specs.Extensions.{ExtValue}
 use Rattle.task.specs.Turning.{Live, turn_of}
-use Rattle.sim.specs.Play.{Answer, Accepted, Drains, Follows, Judgement, Nothing, Refused, begin_told, commit_told, drain_quantum, event_of, ext_event, install_told, no_event, no_turn, one_event, one_turn, put_told, steal_first, turn_first, turned}
+use Rattle.sim.specs.Play.{Answer, Accepted, Drains, Follows, Judgement, Nothing, Refused, begin_told, drain_quantum, event_of, ext_event, no_event, no_turn, one_event, one_turn, steal_first, turn_first, turned}
 use Rattle.sim.specs.State.{SimState, queue_of, with_queue}
 
-put-grants : (state : SimState) (entry : Entry) (answer : Put) → (put_told state entry answer).1.grants ≡ state.grants
-put-grants state entry (put.Done n) = refl
-put-grants state entry put.Denied = refl
-put-grants state entry (put.Full at) = refl
-put-grants state entry put.Memory = refl
-
-install-grants : (state : SimState) (tenant : TenantId) (ext : ExtValue) (answer : Install) → (install_told state tenant ext answer).1.grants ≡ state.grants
-install-grants state tenant ext (install.Installed n number) = refl
-install-grants state tenant ext (install.Full at) = refl
-install-grants state tenant ext install.Memory = refl
-
 ext-grants : (state : SimState) (tenant : TenantId) (text : List ℕ) (judgement : Judgement) → (ext_event state tenant text judgement).1.grants ≡ state.grants
-ext-grants state tenant text (Accepted program) = install-grants state tenant _ _
+ext-grants state tenant text (Accepted program) = refl
 ext-grants state tenant text (Refused at code) = refl
 ext-grants state tenant text Nothing = refl
 
@@ -41,17 +24,10 @@ begin-grants state worker call (Some live) ext = refl
 begin-grants state worker call None None = refl
 begin-grants state worker call None (Some ext) = refl
 
-commit-grants : (state : SimState) (call : Call) (entry : Entry) (answer : Commit) → (commit_told state call entry answer).1.grants ≡ state.grants
-commit-grants state call entry (commit.Committed n outcome) = refl
-commit-grants state call entry (commit.Stale last at) = refl
-commit-grants state call entry (commit.Conflict table key read read_at now now_at) = refl
-commit-grants state call entry (commit.Full at) = refl
-commit-grants state call entry commit.Memory = refl
-
 turned-grants : (state : SimState) (worker : ℕ) (live : Live) (stands : Phase) → (turned state worker live stands).1.grants ≡ state.grants
 turned-grants state worker live phase.Ready = refl
 turned-grants state worker live (phase.Waiting table key) = refl
-turned-grants state worker live (phase.Ended outcome writes) = commit-grants state live.call _ _
+turned-grants state worker live (phase.Ended outcome writes) = refl
 
 turn-grants : (state : SimState) (worker quantum : ℕ) (queue : List Live) → (turn_first state worker quantum queue).1.grants ≡ state.grants
 turn-grants state worker quantum [] = refl
@@ -63,7 +39,7 @@ steal-grants state worker victim [] = refl
 steal-grants state worker victim (live ∷ queue) = refl
 
 event-grants : (state : SimState) (event : Event) (judgement : Judgement) → (event_of state event judgement).1.grants ≡ state.grants
-event-grants state (event.Put tenant table key value) judgement = put-grants state _ _
+event-grants state (event.Put tenant table key value) judgement = refl
 event-grants state (event.Ext tenant text) judgement = ext-grants state tenant text judgement
 event-grants state (event.Begin worker tenant asked) judgement = begin-grants state worker _ _ _
 event-grants state (event.Turn worker quantum) judgement = turn-grants state worker quantum (queue_of state.queues worker)
