@@ -9,6 +9,7 @@ mod answers;
 mod book;
 mod changes;
 mod exts;
+mod keeps;
 mod lasts;
 mod laws;
 mod notes;
@@ -16,4 +17,5 @@ mod reads;
 
 pub use answers::{Commit, Install, Put, Read};
 pub use book::Book;
+pub use keeps::BookFixed;
 pub use laws::{audited_is_legal, conflicts_name_moved_reads, legal_killed_are_spent};

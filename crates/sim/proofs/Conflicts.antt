@@ -1,12 +1,10 @@
 -- Every conflict of a play tells of a read whose version had moved.
 use Rattle.std.specs.Prelude.{map}
-use Rattle.std.specs.List.{AllByRecursion}
 use Rattle.std.proofs.Common.{◌≡◌, ℕ, ◌+◌, List, [], ◌∷◌, ◌++◌, Option, Some, None, refl, sym, subst}
 use Rattle.sp_base.specs.declared.calls.Call.{Call}
 use Rattle.sp_base.specs.declared.outcomes.Outcome.{Outcome}
 use Rattle.sp_base.specs.declared.reads.ReadItem.{ReadItem}
 use Rattle.sp_base.specs.declared.numbers.TenantId.{TenantId}
-use Rattle.sp_base.specs.declared.writes.Write.{Write}
 use Rattle.book.specs.declared.answers.Commit.{Commit}
 use Rattle.book.specs.declared.answers.Commit.TheVariants as commit
 use Rattle.book.specs.declared.answers.Install.{Install}
@@ -25,7 +23,7 @@ use Rattle.task.specs.declared.phase.Phase.TheVariants as phase
 use Rattle.task.specs.Extensions.{ExtValue}
 use Rattle.task.specs.Turning.{Live, turn_of}
 use Rattle.sim.specs.Laws.{ConflictsHaveMoved, TellsMoved, PlaysTellMovedReads}
-use Rattle.sim.specs.Play.{Answer, Judgement, Accepted, Refused, Nothing, Told, Follows, no_event, one_event, Drains, no_turn, one_turn, begin_told, call_of, commit_said, drain_quantum, drain_turn, event_of, ext_event, in_drain, install_said, of_call, put_said, steal_first, turn_event, turn_first, turned}
+use Rattle.sim.specs.Play.{Answer, Judgement, Accepted, Refused, Nothing, Follows, no_event, one_event, Drains, no_turn, one_turn, begin_told, call_of, commit_said, drain_quantum, drain_turn, event_of, ext_event, in_drain, install_said, of_call, put_said, steal_first, turn_first, turned}
 use Rattle.sim.specs.State.{SimState, queue_of, live_call, with_queue}
 
 put-moved : (given : Put) → TellsMoved (put_said given)

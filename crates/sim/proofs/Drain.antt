@@ -1,11 +1,11 @@
 -- The drain, with the next worker moved on.
-use Rattle.std.proofs.Common.{◌≡◌, ℕ, ◌+◌, Option, Some, refl, ap, sym, ◌∙◌, subst}
+use Rattle.std.proofs.Common.{◌≡◌, ℕ, ◌+◌, Option, Some, refl, ap, sym, ◌∙◌}
 use Rattle.std.proofs.Common.{List, drop}
 use Rattle.report.specs.declared.line.Line.{Line}
 use Rattle.task.specs.Turning.{Live}
 use Rattle.sim.specs.declared.sim.Sim.{Sim}
-use Rattle.sim.specs.Play.{drain_turn, first_busy, next_worker, or_else, turn_event}
-use Rattle.sim.specs.Standing.{Stands, StandsAt, Tells, TurnPlayed}
+use Rattle.sim.specs.Play.{first_busy, next_worker, or_else, turn_event}
+use Rattle.sim.specs.Standing.{StandsAt, Tells, TurnPlayed}
 use Rattle.sim.specs.State.{SimState}
 
 pub stands-next : (sim : Sim) (state : SimState) (next : ℕ) → StandsAt sim state → StandsAt (record sim { next = next }) (record state { next = next })

@@ -1,5 +1,5 @@
 -- A call that has ended: what is told of it, and what the book then stands for.
-use Rattle.std.proofs.Common.{◌≡◌, ◌≢◌, ◌⊎◌, ℕ, false, List, inl, inr, ap, sym, ◌∙◌, subst}
+use Rattle.std.proofs.Common.{◌≡◌, ◌≢◌, ◌⊎◌, ℕ, false, List, inl, inr, ap, ◌∙◌, subst}
 use Rattle.sp_base.specs.declared.calls.Call.{Call}
 use Rattle.sp_base.specs.declared.outcomes.Outcome.{Outcome}
 use Rattle.sp_base.specs.declared.reads.ReadItem.{ReadItem}
@@ -9,7 +9,6 @@ use Rattle.book.specs.declared.answers.Commit.{Commit}
 use Rattle.book.specs.declared.answers.Commit.TheVariants as commit
 use Rattle.book.specs.Standing.{BookValue, StandsFor}
 use Rattle.book.specs.Verdict.{after_commit, entry_of, verdict}
-use Rattle.report.specs.declared.line.Line.{Line}
 use Rattle.report.specs.declared.line.Line.TheVariants as line
 use Rattle.report.specs.declared.line.Said.{Said}
 use Rattle.sim.specs.Play.{commit_said, of_call}

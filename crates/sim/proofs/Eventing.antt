@@ -1,7 +1,7 @@
 -- The events but for turns, by what they do to book, queues and index.
 use Rattle.std.specs.Prelude.{option_map, slice_get, if◌then◌else◌}
 use Rattle.std.specs.List.{AllZip}
-use Rattle.std.proofs.Common.{◌≡◌, ◌≢◌, ◌<◌, ◌≤◌, ◌⊎◌, ℕ, zero, suc, ◌+◌, List, [], ◌∷◌, ◌++◌, length, Option, Some, None, inl, inr, refl, ap, sym, ◌∙◌, subst, arith}
+use Rattle.std.proofs.Common.{◌≡◌, ◌≢◌, ◌<◌, ◌⊎◌, ℕ, zero, suc, List, [], ◌∷◌, ◌++◌, length, Option, Some, None, inl, inr, refl, ap, sym, ◌∙◌, subst}
 use Rattle.sp_base.specs.declared.calls.Call.{Call}
 use Rattle.sp_base.specs.declared.numbers.CallNo.{CallNo}
 use Rattle.sp_base.specs.declared.numbers.Caller.{Caller}
@@ -9,7 +9,6 @@ use Rattle.sp_base.specs.declared.numbers.TableId.{TableId}
 use Rattle.sp_base.specs.declared.numbers.TenantId.{TenantId}
 use Rattle.sp_base.specs.declared.rights.Level.{Level}
 use Rattle.ext_mean.specs.declared.refusal.Refusal.{Refusal}
-use Rattle.ext_mean.specs.declared.tree.Program.{Program}
 use Rattle.ext_check.specs.Checking.{IsAccepted, IsRefused}
 use Rattle.records.specs.GrantsList.{GrantsList}
 use Rattle.journal.specs.declared.entry.Entry.{Entry}
@@ -26,19 +25,18 @@ use Rattle.book.specs.Verdict.{after_install, after_put, install_answer, put_ans
 use Rattle.report.specs.declared.line.Line.{Line}
 use Rattle.report.specs.declared.line.Line.TheVariants as line
 use Rattle.report.specs.declared.line.Said.TheVariants as said
-use Rattle.sched_text.specs.declared.event.Event.{Event}
 use Rattle.sched_text.specs.declared.event.Event.TheVariants as event
 use Rattle.task.specs.declared.ext_fault.ExtFault.{ExtFault}
 use Rattle.task.specs.Extensions.{Explains, ExtValue, IsExtension}
 use Rattle.task.specs.Turning.{Live, begun}
 use Rattle.sim.specs.declared.callers.Callers.{Callers}
 use Rattle.sim.specs.declared.sim.Sim.{Sim}
-use Rattle.sim.specs.Counting.{AllLive, Indexes}
-use Rattle.sim.specs.Play.{Accepted, Judgement, Refused, Told, after_installed, begin_event, begin_told, install_said, install_told, of_call, put_event, put_said, put_told, steal_event, steal_first}
-use Rattle.sim.specs.Queueing.{Takes, TakesNothing, number_of, with_back}
-use Rattle.sim.specs.Standing.{AreInstalled, FaultTold, IsLive, Played, Stands, StandsAt, Tells, workers_of}
-use Rattle.sim.specs.State.{SimState, exts_of, live_call, queue_of, queued, with_journal, with_queue}
-use Rattle.sim.proofs.Growing.{HasExtension, extension-at, installed-more, one-extension, zip-length}
+use Rattle.sim.specs.Counting.{Indexes}
+use Rattle.sim.specs.Play.{Accepted, Refused, Told, after_installed, begin_event, begin_told, install_said, install_told, of_call, put_event, put_said, put_told, steal_event, steal_first}
+use Rattle.sim.specs.Queueing.{Takes, number_of, with_back}
+use Rattle.sim.specs.Standing.{AreInstalled, FaultTold, IsLive, Played, StandsAt, Tells, workers_of}
+use Rattle.sim.specs.State.{SimState, exts_of, queue_of, queued, with_journal, with_queue}
+use Rattle.sim.proofs.Growing.{extension-at, installed-more, one-extension, zip-length}
 use Rattle.sim.proofs.Indexing.{index-none, index-some, indexed-begun}
 use Rattle.sim.proofs.Totals.{all-back, all-taken}
 use Rattle.sim.proofs.Turning.{back-stands, installed-still, live-still, small-of, taken-of, tells-by}

@@ -1,12 +1,9 @@
 -- Of every event one thing is judged.
-use Rattle.std.proofs.Common.{◌≡◌, ℕ, List, refl, ap, sym, ◌∙◌}
+use Rattle.std.proofs.Common.{◌≡◌, ℕ, List, ap, sym, ◌∙◌}
 use Rattle.sp_base.specs.declared.numbers.TenantId.{TenantId}
 use Rattle.ext_mean.specs.declared.refusal.Refusal.{Refusal}
-use Rattle.ext_mean.specs.declared.tree.Program.{Program}
 use Rattle.ext_parse.proofs.OneProgram.{one-program}
-use Rattle.ext_check.specs.Checking.{IsAccepted, IsRefused}
 use Rattle.ext_check.proofs.OneRefusal.{one-refusal, refused-not-accepted}
-use Rattle.sched_text.specs.declared.event.Event.{Event}
 use Rattle.sched_text.specs.declared.event.Event.TheVariants as event
 use Rattle.sim.specs.Laws.{EventsAreJudgedOnce}
 use Rattle.sim.specs.Play.{Judgement, Accepted, Refused, Nothing, IsJudged}

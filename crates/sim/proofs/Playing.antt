@@ -1,12 +1,11 @@
 -- A script has one play.
 use Rattle.std.specs.Prelude.{map}
-use Rattle.std.proofs.Common.{◌≡◌, ℕ, List, [], ◌∷◌, ◌++◌, Option, Some, None, refl, ap, sym, ◌∙◌, subst}
+use Rattle.std.proofs.Common.{◌≡◌, ℕ, List, ◌∷◌, ◌++◌, Some, None, refl, ap, sym, ◌∙◌, subst}
 use Rattle.report.specs.declared.line.Line.{Line}
 use Rattle.report.specs.declared.line.Prefix.TheVariants.{At}
 use Rattle.sched_text.specs.declared.event.Event.{Event}
-use Rattle.sched_text.specs.declared.script.Script.{Script}
 use Rattle.sim.specs.Laws.{EventsAreJudgedOnce, ScriptsHaveOnePlay}
-use Rattle.sim.specs.Play.{Answer, Judgement, Follows, no_event, one_event, Drains, no_turn, one_turn, drain_turn, event_of, in_drain, next_worker, opened, Plays}
+use Rattle.sim.specs.Play.{Answer, Judgement, Follows, no_event, one_event, Drains, no_turn, one_turn, drain_turn, event_of, in_drain, opened}
 use Rattle.sim.specs.State.{SimState}
 
 -- what follows a state, whichever events these are

@@ -1,11 +1,10 @@
 -- A wanted record may be read, and is what the journal held.
 use Rattle.std.specs.Prelude.{IsTrue, if◌then◌else◌}
-use Rattle.std.proofs.Common.{◌≡◌, ◌≤◌, ◌⊎◌, ℕ, Bool, true, false, List, [], ◌∷◌, ◌++◌, length, take, inl, inr, refl, ap, sym, ◌∙◌, subst, arith}
+use Rattle.std.proofs.Common.{◌≡◌, ◌⊎◌, ℕ, Bool, true, false, List, length, take, inl, inr, ap, sym, ◌∙◌, subst, arith}
 use Rattle.std.proofs.lemmas.List.{take_all}
 use Rattle.sp_base.specs.declared.numbers.TableId.{TableId}
 use Rattle.sp_base.specs.declared.numbers.TenantId.{TenantId}
 use Rattle.sp_base.specs.declared.reads.ReadItem.{ReadItem}
-use Rattle.sp_base.specs.declared.rights.Level.{Level}
 use Rattle.sp_base.specs.RightsList.{can_read}
 use Rattle.ext_mean.specs.declared.run.Run.TheVariants.{Wants}
 use Rattle.ext_mean.proofs.WantsProved.{are-due}

@@ -1,16 +1,13 @@
 -- A turn of a worker's first call, by what it does to the queues.
 use Rattle.std.specs.Prelude.{IfOk, OnOk, Result, Ok, Err, nat_lt, if◌then◌else◌}
 use Rattle.std.specs.List.{AllByRecursion}
-use Rattle.std.proofs.Common.{◌≡◌, ◌<◌, ◌≤◌, ◌⊎◌, ℕ, ◌+◌, ◌-◌, Bool, true, false, None, List, [], ◌∷◌, ◌++◌, length, inl, inr, refl, ap, sym, ◌∙◌, subst, arith}
+use Rattle.std.proofs.Common.{◌≡◌, ◌<◌, ◌≤◌, ◌⊎◌, ℕ, ◌+◌, Bool, true, false, None, List, [], ◌∷◌, ◌++◌, length, inl, inr, refl, ap, sym, ◌∙◌, subst, arith}
 use Rattle.std.proofs.lemmas.List.{length-set}
 use Rattle.sp_base.specs.declared.calls.Call.{Call}
 use Rattle.sp_base.specs.declared.numbers.Caller.{Caller}
 use Rattle.sp_base.specs.declared.numbers.TableId.{TableId}
 use Rattle.sp_base.specs.declared.numbers.TenantId.{TenantId}
-use Rattle.sp_base.specs.declared.outcomes.Outcome.{Outcome}
-use Rattle.sp_base.specs.declared.outcomes.Outcome.TheVariants as outcome
 use Rattle.sp_base.specs.declared.reads.ReadItem.{ReadItem}
-use Rattle.sp_base.specs.declared.writes.Write.{Write}
 use Rattle.ext_mean.specs.declared.run.Run.{Run}
 use Rattle.ext_mean.specs.declared.run.Run.TheVariants as run
 use Rattle.records.specs.GrantsList.{GrantsList}
@@ -35,7 +32,7 @@ use Rattle.sim.specs.Counting.{AllLive, Indexes, left_of, total}
 use Rattle.sim.specs.Play.{Told, commit_said, of_call, turn_event, turn_first, turned}
 use Rattle.sim.specs.Queueing.{Takes, number_of, with_back}
 use Rattle.sim.specs.Standing.{AreInstalled, Ends, GoesOn, IsLive, ReadsOn, Stands, StandsAt, Tells, commit_of, units_left, workers_of}
-use Rattle.sim.specs.State.{SimState, queue_of, queued, with_journal, with_queue}
+use Rattle.sim.specs.State.{SimState, queued, with_journal, with_queue}
 use Rattle.sim.proofs.Growing.{InstallsNothing, all-live-grown, installed-grown}
 use Rattle.sim.proofs.Indexing.{indexed-ended, indexed-moved}
 use Rattle.sim.proofs.Reading.{held-now}

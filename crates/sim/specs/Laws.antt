@@ -1,5 +1,5 @@
 -- What holds of every play.
-use Rattle.std.specs.Prelude.{◌≡◌, ◌≢◌, ℕ, List}
+use Rattle.std.specs.Prelude.{◌≡◌, ◌≢◌, List}
 use Rattle.std.specs.List.{AllByRecursion}
 use Rattle.journal.specs.declared.entry.Entry.{Entry}
 use Rattle.report.specs.declared.line.Line.{Line}

@@ -1,9 +1,7 @@
 -- No event of a play changes the grants.
-use Rattle.std.specs.Prelude.{slice_get}
 use Rattle.std.proofs.Common.{◌≡◌, ℕ, ◌+◌, Option, Some, None, List, [], ◌∷◌, refl, ◌∙◌}
 use Rattle.sp_base.specs.declared.calls.Call.{Call}
 use Rattle.sp_base.specs.declared.numbers.TenantId.{TenantId}
-use Rattle.journal.specs.declared.entry.Entry.{Entry}
 use Rattle.report.specs.declared.line.Line.{Line}
 use Rattle.sched_text.specs.declared.event.Event.{Event}
 use Rattle.sched_text.specs.declared.event.Event.TheVariants as event

@@ -1,14 +1,13 @@
 -- What a run leaves, by what is to be written and what was.
-use Rattle.std.specs.Prelude.{IfSome, nat_lt}
+use Rattle.std.specs.Prelude.{IfSome}
 use Rattle.std.proofs.lemmas.Bool.{lt-ltb}
 use Rattle.std.proofs.lemmas.Fmt.{decimal_digit}
-use Rattle.std.proofs.Common.{◌≡◌, ◌<◌, ◌⊎◌, ℕ, List, [], ◌∷◌, ◌++◌, ap, codes, Option, Some, None, Ok, Err, Result, cond, true, length, sym, refl, ◌∙◌, subst, inl, inr, arith}
+use Rattle.std.proofs.Common.{◌≡◌, ◌<◌, ◌⊎◌, ℕ, List, [], ◌∷◌, ◌++◌, ap, codes, Option, Some, None, Err, length, sym, refl, subst, inl, inr, arith}
 use Rattle.sp_outside.specs.Reading.{IsLongerInput, IsWholeInput}
 use Rattle.report.specs.Lines.{line_of}
 use Rattle.sched_text.specs.declared.code.LineCode.TheVariants as code
 use Rattle.sched_text.specs.declared.line.Kind.TheVariants as kind
-use Rattle.sched_text.specs.declared.script.Script.{Script}
-use Rattle.sched_text.specs.Judged.{BadLine, judged}
+use Rattle.sched_text.specs.Judged.{judged}
 use Rattle.splinter.specs.declared.status.Status.{Status}
 use Rattle.splinter.specs.declared.status.Status.TheVariants as status
 use Rattle.splinter.specs.Ending.{WritesText}

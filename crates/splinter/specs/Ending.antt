@@ -1,5 +1,5 @@
 -- How a command ends, and why.
-use Rattle.std.specs.Prelude.{◌≡◌, ◌≤◌, ◌⊎◌, ℕ, List, ◌++◌, take, Option, Some, length}
+use Rattle.std.specs.Prelude.{◌≡◌, ◌≤◌, ◌⊎◌, ℕ, List, ◌++◌, Option, Some}
 use Rattle.sp_outside.specs.Faults.{FaultCounted}
 use Rattle.sp_outside.specs.Writing.{HoldsPrefix}
 use Rattle.splinter.specs.declared.status.Status.{Status}

@@ -1,7 +1,4 @@
 -- A turn more, and the end of the drain.
-use Rattle.std.specs.Prelude.{◌≡◌, true, false}
-use Rattle.std.proofs.Common.{subst}
-use Rattle.splinter.specs.Playing.{AddsTurn, NoneAdded, TurnAdded}
 use Rattle.splinter.proofs.Parts.{turn-stands, turns-end, turns-more}
 use Rattle.splinter.proofs.play.add_drain.Goals as goal
 

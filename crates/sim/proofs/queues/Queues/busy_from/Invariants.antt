@@ -1,5 +1,5 @@
 -- What the workers left give is the answer.
-use Rattle.std.proofs.Common.{◌≡◌, ◌≤◌, ◌-◌, length, drop}
+use Rattle.std.proofs.Common.{◌≡◌, ◌-◌, length, drop}
 use Rattle.sim.specs.Play.{first_busy}
 use Rattle.sim.proofs.queues.Queues.busy_from.Given as goal
 

@@ -1,5 +1,5 @@
 -- One more queue, and at the end as many as workers.
-use Rattle.std.proofs.Common.{◌≡◌, ◌≤◌, length, ap, ◌∙◌, arith}
+use Rattle.std.proofs.Common.{◌≡◌, length, ap, ◌∙◌, arith}
 use Rattle.std.proofs.lemmas.Grind.{common_steps}
 use Rattle.sim.proofs.Queueing.{one-more-worker, length-idle}
 use Rattle.sim.proofs.queues.Queues.new.Goals as goal

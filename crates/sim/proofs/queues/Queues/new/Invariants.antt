@@ -1,5 +1,5 @@
 -- So many queues, each empty.
-use Rattle.std.proofs.Common.{◌≡◌, length}
+use Rattle.std.proofs.Common.{◌≡◌}
 use Rattle.sim.specs.Play.{idle_workers}
 use Rattle.sim.proofs.queues.Queues.new.Given as goal
 

@@ -1,11 +1,11 @@
 -- The caller has a live call, or the tenant no such extension, or the call joins the queue.
-use Rattle.std.specs.Prelude.{option_map, slice_get}
-use Rattle.std.proofs.Common.{◌≡◌, List, ℕ, Option, Some, None, refl, sym, ap, subst, ◌∙◌}
+use Rattle.std.specs.Prelude.{option_map}
+use Rattle.std.proofs.Common.{refl, sym, ap, subst, ◌∙◌}
 use Rattle.std.specs.Arc.{arc_value}
 use Rattle.ext_check.specs.Checking.{IsAccepted}
 use Rattle.book.specs.Indexes.{text_of}
 use Rattle.task.specs.Extensions.{ExtValue}
-use Rattle.task.specs.Turning.{Live, begun}
+use Rattle.task.specs.Turning.{Live}
 use Rattle.sim.specs.Queueing.{with_back}
 use Rattle.sim.proofs.Eventing.{begun-tells, busy-tells, missing-tells, not-some}
 use Rattle.sim.proofs.sim.Sim.begin.Goals as goal

@@ -1,6 +1,6 @@
 -- The text is judged, and an accepted one is installed where the book has room.
 use Rattle.std.proofs.Common.{List, ℕ, refl, subst}
-use Rattle.task.specs.Extensions.{Explains, ExtValue, IsExtension}
+use Rattle.task.specs.Extensions.{Explains, IsExtension}
 use Rattle.sim.proofs.Eventing.{install-played, rejected-played}
 use Rattle.sim.proofs.Turning.{both-ok-map, if-ok-map}
 use Rattle.sim.proofs.sim.Sim.install.Goals as goal

@@ -1,5 +1,5 @@
 -- The book is empty, and no worker has a call.
-use Rattle.std.proofs.Common.{◌≡◌, ◌∙◌, [], ap, length, refl}
+use Rattle.std.proofs.Common.{◌∙◌, [], ap, length, refl}
 use Rattle.sim.specs.Standing.{IsLive}
 use Rattle.sim.proofs.Opening.{all-idle, indexes-idle}
 use Rattle.sim.proofs.Queueing.{length-idle}

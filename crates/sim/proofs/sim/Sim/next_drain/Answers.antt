@@ -1,6 +1,6 @@
 -- The next worker that has a call has a turn.
 use Rattle.std.specs.Prelude.{IfSome}
-use Rattle.std.proofs.Common.{◌≡◌, ◌<◌, ◌≤◌, ◌+◌, ◌^◌, ℕ, Option, Some, length, sym, subst, ◌∙◌, arith}
+use Rattle.std.proofs.Common.{◌+◌, ℕ, Option, sym, subst, ◌∙◌, arith}
 use Rattle.sim.specs.Queueing.{HasCall}
 use Rattle.sim.proofs.Drain.{stands-next, turn-played}
 use Rattle.sim.proofs.sim.Sim.next_drain.Goals as goal

@@ -1,17 +1,14 @@
 -- The record that was wanted may be read, and joins the reads.
-use Rattle.std.proofs.Common.{◌≡◌, List, ℕ, sym, ap, subst, ◌∙◌}
+use Rattle.std.proofs.Common.{◌≡◌, List, sym, ap, subst, ◌∙◌}
 use Rattle.std.specs.Prelude.{IsTrue}
 use Rattle.sp_base.specs.declared.numbers.TableId.{TableId}
 use Rattle.sp_base.specs.declared.reads.ReadItem.{ReadItem}
-use Rattle.sp_base.specs.declared.calls.Call.{Call}
 use Rattle.sp_base.specs.declared.rights.Level.{Level}
 use Rattle.sp_base.specs.RightsList.{can_read}
 use Rattle.journal.specs.Granted.{granted}
 use Rattle.book.specs.Verdict.{item_at}
-use Rattle.task.specs.declared.phase.Phase.{Phase}
 use Rattle.task.specs.declared.phase.Phase.TheVariants.{Waiting}
 use Rattle.task.specs.Tasks.{IsTask}
-use Rattle.task.specs.Turning.{Live}
 use Rattle.sim.proofs.Reading.{found-item, not-denied, waits-readable}
 use Rattle.sim.proofs.sim.Sim.read.Goals as goal
 

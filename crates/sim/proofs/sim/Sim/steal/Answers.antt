@@ -1,9 +1,8 @@
 -- The call is moved.
-use Rattle.std.proofs.Common.{ap, refl, ◌∙◌}
+use Rattle.std.proofs.Common.{ap, ◌∙◌}
 use Rattle.report.specs.declared.line.Said.TheVariants as said
 use Rattle.sp_base.specs.declared.calls.Call.{Call}
 use Rattle.sim.specs.Play.{of_call}
-use Rattle.task.specs.Turning.{Live}
 use Rattle.sim.specs.declared.sim.Sim.{Sim}
 use Rattle.sim.proofs.Eventing.{steal-tells}
 use Rattle.sim.proofs.sim.Sim.steal.Goals as goal

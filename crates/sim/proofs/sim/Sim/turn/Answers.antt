@@ -1,11 +1,11 @@
 -- The turn of the first call, by its answer.
-use Rattle.std.proofs.Common.{◌≡◌, ◌≢◌, ◌<◌, List, ap, sym, subst, ◌∙◌}
+use Rattle.std.proofs.Common.{◌≡◌, ◌≢◌, ap, sym, subst, ◌∙◌}
 use Rattle.book.specs.Verdict.{item_at}
 use Rattle.task.specs.declared.phase.Phase.{Phase}
 use Rattle.task.specs.declared.phase.Phase.TheVariants as phase
 use Rattle.task.specs.declared.turned.Turned.TheVariants as told
 use Rattle.task.specs.Tasks.{GoesOn as On}
-use Rattle.task.specs.Turning.{Live, given, turn_of}
+use Rattle.task.specs.Turning.{Live, given}
 use Rattle.sim.specs.declared.sim.Sim.{Sim}
 use Rattle.sim.proofs.Turning.{end-falls, end-tells, goes-falls, goes-tells, if-ok-map, on-ok-map, ran-each, ran-ready, reads-tell, ready-of, spends-more, turned-call, wants-waits}
 use Rattle.sim.proofs.sim.Sim.turn.Goals as goal
