@@ -3,8 +3,8 @@
 #![tactic(auto)]
 
 #[cfg(test)]
-mod book;
+mod answers;
 #[cfg(test)]
-mod journal;
+mod entries;
 #[cfg(test)]
-mod records;
+mod tables;
