@@ -2,9 +2,11 @@
 //! ample memory. They stand above the crates that they test, so that no crate is proved twice.
 #![tactic(auto)]
 
-pub mod cases;
+#[cfg(test)]
+mod cases;
 #[cfg(test)]
 mod read_sets;
 #[cfg(test)]
 mod tests;
-pub mod turns;
+#[cfg(test)]
+mod turns;
