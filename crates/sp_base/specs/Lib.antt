@@ -1,5 +1,6 @@
 pub mod Fields
 pub mod Limits
 pub mod Places
+pub mod Placing
 pub mod RightsList
 pub mod Spelling
