@@ -1,0 +1,6 @@
+pub mod BlockSteps
+pub mod CodeForms
+pub mod Jumps
+pub mod KeptPlaces
+pub mod SoundCode
+pub mod SoundForms
