@@ -208,8 +208,11 @@ fn the_hundred_smallest_scripts_play_as_worked_out(rt: HostRuntime) -> Result<()
     let alloc = rt.alloc();
     for case in small::CASES.split('$').skip(1) {
         let mut parts = case.lines();
-        let (Some(events), Some(answers), Some(entries)) = (parts.next(), parts.next(), parts.next())
-        else {
+        let (Some(events), Some(answers), Some(entries)) = (
+            parts.next(),
+            parts.next(),
+            parts.next(),
+        ) else {
             return Err(Fail::new("no case"));
         };
         let mut script = format!(in alloc; "{}{}", small::HEAD, small::COUNTER)?;

@@ -14,7 +14,8 @@ workers 2
 ext 1 1
 ";
 
-pub const COUNTER: &str = "fn main() -> int { let n: int = 0; get(6, args()) { some s => { n = u64(s, 0); } none => { } } let b: buf = alloc(6, args(), 8); set8(b, 0, n + 1); put(b); return n + 1; }
+pub const COUNTER: &str =
+    "fn main() -> int { let n: int = 0; get(6, args()) { some s => { n = u64(s, 0); } none => { } } let b: buf = alloc(6, args(), 8); set8(b, 0, n + 1); put(b); return n + 1; }
 ";
 
 pub const CASES: &str = "\
