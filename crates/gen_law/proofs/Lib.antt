@@ -1,1 +1,4 @@
 pub mod Following
+pub mod Standing
+pub mod Slots
+pub mod Operands
