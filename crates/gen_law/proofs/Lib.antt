@@ -4,3 +4,8 @@ pub mod Slots
 pub mod Operands
 pub mod Making
 pub mod Expressions
+pub mod Courses
+pub mod Blocks
+pub mod Acts
+pub mod Returns
+pub mod Branches

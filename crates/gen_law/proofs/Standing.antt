@@ -99,7 +99,7 @@ module _ (m : Machine) (here : Here) where
   with_used used state = record state { used = used }
 
   -- what a charge leads to
-  abbrev charging : Bool → ℕ → ℕ → List Value → State → Progress
+  abbrev pub charging : Bool → ℕ → ℕ → List Value → State → Progress
   charging fits units pc stack state =
       machine.behind (config here pc stack state) (λ _ later. machine.goes_to (later.pc + 1) later)
       (if fits then Next (tt {0}) (with_used (state.used + units) (machine.state_of (config here pc stack state))) else Ends Spent)

@@ -7,7 +7,6 @@ use Rattle.ext_mean.specs.Views.{View}
 use Rattle.gen_code.specs.declared.code.Code.{Code}
 use Rattle.gen_code.specs.Codes.{code_of}
 use Rattle.gen_code.specs.Machine.{Progress, Going, Over, begin, most_turns, steps}
-use Rattle.gen_code.specs.Sound.{IsSound}
 
 -- where code stands after as many turns as it can make with a budget, from its beginning
 abbrev pub end_of : Code → List ℕ → ℕ → View → Progress
@@ -20,7 +19,3 @@ CodeMeansTheSame =
     (program : Program) (args : List ℕ) (budget : ℕ) (view : View)
     → IsTyped program
     → end_of (code_of program) args budget view ≡ Over (mean program args budget view)
-
--- the code of every program is sound
-abbrev pub CodeIsSound : Type 0
-CodeIsSound = (program : Program) → IsSound (code_of program)
