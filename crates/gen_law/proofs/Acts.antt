@@ -61,7 +61,7 @@ module _ (m : Machine) (here : Here) where
       let store : List Op = op.Store (length scope) ∷ [] in
       let parts = standing.split m here base first store has in
       let many = length-append first store in
-      operands.operand m here coder work (declare param.name) gives scope base 1 (length (first ++ store) + 2) stack state parts.0 scoped fits (omega (arith, many))
+      operands.operand m here coder work (declare param.name) gives scope base 1 (length (first ++ store) + 3) stack state parts.0 scoped fits (omega (arith, many))
       (λ own later grows scoped' within. store-declares param scope 1 (base + length first) stop stack own later parts.1.0 (omega (arith, many, ends)) within scoped' (omega arith))
 
   -- `=`
@@ -71,7 +71,7 @@ module _ (m : Machine) (here : Here) where
       let store : List Op = op.Store (slot_of scope name) ∷ [] in
       let parts = standing.split m here base first store has in
       let many = length-append first store in
-      operands.operand m here coder work (assign name) gives scope base 1 (length (first ++ store) + 2) stack state parts.0 scoped fits (omega (arith, many))
+      operands.operand m here coder work (assign name) gives scope base 1 (length (first ++ store) + 3) stack state parts.0 scoped fits (omega (arith, many))
       (λ own later grows scoped' within.
       let last : State = record later { locals = assigned name own later.locals } in
       standing.instructed m here later.used 0 1 (base + length first) (own ∷ stack) later (op.Store (slot_of scope name)) (Next tt last) parts.1.0 (omega arith)
@@ -118,7 +118,7 @@ module _ (m : Machine) (here : Here) where
       let parts' = standing.split m here (base + length first) next last parts.1 in
       let many = length-append first (next ++ last) in
       let many' = length-append next last in
-      operands.operand m here left work (λ one. work' >>= more one) gives scope base (length next + 1) (length (first ++ (next ++ last)) + 2) stack state parts.0 scoped fits (omega (arith, many, many'))
+      operands.operand m here left work (λ one. work' >>= more one) gives scope base (length next + 1) (length (first ++ (next ++ last)) + 3) stack state parts.0 scoped fits (omega (arith, many, many'))
       (λ one later grows scoped' within.
       operands.operand m here right work' (more one) gives' scope (base + length first) 1 (length next + 1) (one ∷ stack) later parts'.0 scoped' within (omega arith)
       (λ other later' grows' scoped'' within'.
@@ -181,7 +181,7 @@ module _ (m : Machine) (here : Here) where
   -- `put`
   pub put-works : (name : List ℕ) → courses.Works m here (on_slot op.Put name) [] (variable name >>= put)
   put-works name scope base stop stack state has ends scoped fits =
-      standing.instructed m here state.used 0 3 base stack state (op.Put (slot_of scope name)) (put (value_of name state.locals) state) has.0 (omega arith)
+      standing.instructed m here state.used 0 4 base stack state (op.Put (slot_of scope name)) (put (value_of name state.locals) state) has.0 (omega arith)
       (subst (λ own. Follow m state.used 0 (machine.does (config here base stack state) (put own) (λ _ later. machine.goes_to (later.pc + 1) later)) (Behind (scope ++ [])) (reached here stop stack) (put (value_of name state.locals) state))
       (sym (slot-value scope state.locals name scoped))
       (put-follows (value_of name state.locals) scope base stop stack state ends fits scoped))
@@ -214,7 +214,7 @@ module _ (m : Machine) (here : Here) where
       let parts' = standing.split m here (base + length first) next last parts.1 in
       let many = length-append first (next ++ last) in
       let many' = length-append next last in
-      operands.operand m here left work (λ number. work' >>= (λ bytes. del m.world (number_of number) (bytes_of bytes))) gives scope base (length next + 1) (length (first ++ (next ++ last)) + 2) stack state parts.0 scoped fits (omega (arith, many, many'))
+      operands.operand m here left work (λ number. work' >>= (λ bytes. del m.world (number_of number) (bytes_of bytes))) gives scope base (length next + 1) (length (first ++ (next ++ last)) + 3) stack state parts.0 scoped fits (omega (arith, many, many'))
       (λ one later grows scoped' within.
       operands.operand m here right work' (λ bytes. del m.world (number_of one) (bytes_of bytes)) gives' scope (base + length first) 1 (length next + 1) (one ∷ stack) later parts'.0 scoped' within (omega arith)
       (λ other later' grows' scoped'' within'.
@@ -239,7 +239,7 @@ module _ (m : Machine) (here : Here) where
       let last : List Op = op.Resp ∷ [] in
       let parts = standing.split m here base first last has in
       let many = length-append first last in
-      operands.operand m here coder work (λ bytes. resp (bytes_of bytes)) gives scope base 1 (length (first ++ last) + 2) stack state parts.0 scoped fits (omega (arith, many))
+      operands.operand m here coder work (λ bytes. resp (bytes_of bytes)) gives scope base 1 (length (first ++ last) + 3) stack state parts.0 scoped fits (omega (arith, many))
       (λ own later grows scoped' within.
       standing.instructed m here later.used 0 1 (base + length first) (own ∷ stack) later op.Resp (resp (bytes_of own) later) parts.1.0 (omega arith)
       (resp-cases (nat_le (length later.reply + length (bytes_of own)) 4096) (later.reply ++ bytes_of own) scope (base + length first) stop stack later (omega (arith, many, ends)) within scoped'))

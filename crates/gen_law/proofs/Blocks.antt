@@ -89,7 +89,7 @@ module _ (m : Machine) (here : Here) where
   block-end (first ∷ rest) scope base stop depth stack state has ends same fits scoped =
       drops scope (first ∷ rest) 1 base stop depth stack state has.0 ends same fits scoped (omega arith)
 
-  block-returned : (declares : List Param) (scope : List Param) (base stop depth : ℕ) (stack : List Value) (returned : Option Value) (state : State)
+  pub block-returned : (declares : List Param) (scope : List Param) (base stop depth : ℕ) (stack : List Value) (returned : Option Value) (state : State)
       → standing.Has m here base (dropped declares scope base) → base + length (dropped declares scope base) ≡ stop → depth ≡ length scope
       → state.used ≤ m.world.budget → Leaves (scope ++ declares) returned state
       → Follow m state.used 1 (onto here base stack returned state) (Leaves scope) (onto here stop stack) (Next returned (forgotten depth state))

@@ -22,10 +22,31 @@ use Rattle.gen_law.proofs.Courses.{onto, Leaves}
 use Rattle.gen_law.proofs.Blocks as blocks
 
 module _ (m : Machine) (here : Here) where
-  same-scope : (scope : List Param) (slack : ℕ) (from : Progress) (before stop : ℕ) (stack : List Value) (step : Step (Option Value))
+  pub same-scope : (scope : List Param) (slack : ℕ) (from : Progress) (before stop : ℕ) (stack : List Value) (step : Step (Option Value))
       → Follow m before slack from (Leaves scope) (onto here stop stack) step → Follow m before slack from (Leaves (scope ++ [])) (onto here stop stack) step
   same-scope scope slack from before stop stack step follow =
       subst (λ out. Follow m before slack from (Leaves out) (onto here stop stack) step) (sym (append-nil scope)) follow
+
+  -- a course, and a jump behind it
+  jumps : (scope : List Param) (returned : Option Value) (later : State) (next target : ℕ) (stack : List Value) → later.used ≤ m.world.budget → op_at m.code here.function next ≡ op.Jump target → Leaves scope returned later
+      → Follow m later.used 1 (onto here next stack returned later) (Leaves scope) (onto here target stack) (Next returned later)
+  jumps scope None later next target stack within is leaves =
+      standing.instructed m here later.used 0 1 next stack later (op.Jump target) (Next None later) is (omega arith)
+      (arrived m {P = Leaves scope} {K = onto here target stack} None later 0 within leaves)
+  jumps scope (Some own) later next target stack within is leaves = arrived m {P = Leaves scope} {K = onto here target stack} (Some own) later 1 within tt
+
+  after-give : (step : Step (Option Value)) → after step give ≡ step
+  after-give (Next value later) = refl
+  after-give (Ends run) = refl
+
+  pub then-jump : (scope : List Param) (slack before next target : ℕ) (stack : List Value) (from : Progress) (step : Step (Option Value))
+      → op_at m.code here.function next ≡ op.Jump target
+      → Follow m before slack from (Leaves scope) (onto here next stack) step
+      → Follow m before (slack + 1) from (Leaves scope) (onto here target stack) step
+  then-jump scope slack before next target stack from step is follow =
+      subst (λ s. Follow m before (slack + 1) from (Leaves scope) (onto here target stack) s) (after-give step)
+      (bind m (Leaves scope) (onto here next stack) before slack 1 (slack + 1) from step give (omega arith) follow
+      (λ returned later grows within leaves. jumps scope returned later next target stack within is leaves))
 
   -- a block, and a jump behind it
   pub block-then-jump : (coder : Coder) (course : Course) (scope : List Param) (base target : ℕ) (stack : List Value) (state : State)
@@ -35,22 +56,9 @@ module _ (m : Machine) (here : Here) where
       → Follow m state.used 2 (at here base stack state) (Leaves scope) (onto here target stack) (course state)
   block-then-jump coder course scope base target stack state block has is cost scoped fits =
       let next = base + length (coder scope base) in
-      let same = append-nil scope in
-      subst (λ step. Follow m state.used 2 (at here base stack state) (Leaves scope) (onto here target stack) step) (after-give (course state))
-      (bind m (Leaves (scope ++ [])) (onto here next stack) state.used 1 1 2 (at here base stack state) (course state) give (omega arith)
-      (block scope base next stack state has refl cost scoped fits)
-      (λ returned later grows within leaves. jumps returned later next within is (subst (λ out. Leaves out returned later) same leaves)))
-    where
-      after-give : (step : Step (Option Value)) → after step give ≡ step
-      after-give (Next value later) = refl
-      after-give (Ends run) = refl
-
-      jumps : (returned : Option Value) (later : State) (next : ℕ) → later.used ≤ m.world.budget → op_at m.code here.function next ≡ op.Jump target → Leaves scope returned later
-          → Follow m later.used 1 (onto here next stack returned later) (Leaves scope) (onto here target stack) (Next returned later)
-      jumps None later next within is leaves =
-          standing.instructed m here later.used 0 1 next stack later (op.Jump target) (Next None later) is (omega arith)
-          (arrived m {P = Leaves scope} {K = onto here target stack} None later 0 within leaves)
-      jumps (Some own) later next within is leaves = arrived m {P = Leaves scope} {K = onto here target stack} (Some own) later 1 within tt
+      then-jump scope 1 state.used next target stack (at here base stack state) (course state) is
+      (subst (λ out. Follow m state.used 1 (at here base stack state) (Leaves out) (onto here next stack) (course state)) (append-nil scope)
+      (block scope base next stack state has refl cost scoped fits))
 
   -- the block of an `if` that is chosen
   if-cases : (truth : Bool) (first second : Coder) (one other : Course) (scope : List Param) (pc stop : ℕ) (stack : List Value) (state : State)
@@ -90,8 +98,8 @@ module _ (m : Machine) (here : Here) where
       let parts = standing.split m here base tested (jump ∷ (yes_ops ++ rest)) has in
       let many = length-append tested (jump ∷ (yes_ops ++ rest)) in
       let many' = length-append yes_ops rest in
-      same-scope scope (length (if_code test first second scope base) + 2) (at here base stack state) state.used stop stack _
-      (operands.operand m here test work (branch one other) gives scope base 3 (length (if_code test first second scope base) + 2) stack state parts.0 scoped fits (omega (arith, many, many'))
+      same-scope scope (length (if_code test first second scope base) + 3) (at here base stack state) state.used stop stack _
+      (operands.operand m here test work (branch one other) gives scope base 3 (length (if_code test first second scope base) + 3) stack state parts.0 scoped fits (omega (arith, many, many'))
       (λ taken later grows scoped' within.
       standing.instructed m here later.used 2 3 pc (taken ∷ stack) later jump (branch one other taken later) parts.1.0 (omega arith)
       (if-cases (truth_of taken) first second one other scope pc stop stack later block block' parts.1.1 (omega (arith, many, many', ends)) (omega (arith, many, many', room)) scoped' within)))
@@ -116,6 +124,20 @@ module _ (m : Machine) (here : Here) where
   turn-cases false body course loop scope pc start stop stack state block has ends cost scoped fits again =
       blocks.goes-on m here 2 (pc + 1 + length (body scope (pc + 1)) + 1) stop stack scope state ends fits scoped
 
+  -- a charge that does not fit
+  not-paid : (enough : Bool) (base : ℕ) (stack : List Value) (state : State) → nat_le (state.used + 1) m.world.budget ≡ enough → m.world.budget ≤ state.used + 0
+      → standing.charging m here enough 1 base stack state ≡ Over Spent
+  not-paid true base stack state is bound = absurd (let high = leb-true (state.used + 1) m.world.budget is in omega (arith, high, bound))
+  not-paid false base stack state is bound = refl
+
+  out-of-units : (enough : Bool) (scope : List Param) (base stop : ℕ) (stack : List Value) (state : State) → nat_le (state.used + 1) m.world.budget ≡ enough
+      → op_at m.code here.function base ≡ op.Charge 1 → state.used ≤ m.world.budget → m.world.budget ≤ state.used + 0
+      → Follow m state.used 0 (at here base stack state) (Leaves scope) (onto here stop stack) (Ends Spent)
+  out-of-units enough scope base stop stack state is there fits bound =
+      let paying : Bool → Progress = λ b. standing.charging m here b 1 base stack state in
+      ended m state.used 0 (at here base stack state) Spent
+      (ap (λ o. perform m.code m.world o (config here base stack state)) there ∙ ap paying is ∙ not-paid enough base stack state is bound) fits
+
   -- the turns of a `while`
   turns-follow : (left : ℕ) (test body : Coder) (work : Work Value) (course : Course) (scope : List Param) (base stop : ℕ) (stack : List Value) (state : State)
       → operands.Gives m here test work → courses.Block m here body course
@@ -124,19 +146,7 @@ module _ (m : Machine) (here : Here) where
       → InScope scope state.locals → state.used ≤ m.world.budget → m.world.budget ≤ state.used + left
       → Follow m state.used 0 (at here base stack state) (Leaves scope) (onto here stop stack) (turns m.world left work course state)
   turns-follow zero test body work course scope base stop stack state gives block has ends cost scoped fits bound =
-      out-of-units (nat_le (state.used + 1) m.world.budget) refl
-    where
-      abbrev paying : Bool → Progress
-      paying enough = standing.charging m here enough 1 base stack state
-
-      spent : (enough : Bool) → nat_le (state.used + 1) m.world.budget ≡ enough → paying enough ≡ Over Spent
-      spent true is = absurd (let high = leb-true (state.used + 1) m.world.budget is in omega (arith, high, bound))
-      spent false is = refl
-
-      out-of-units : (enough : Bool) → nat_le (state.used + 1) m.world.budget ≡ enough → Follow m state.used 0 (at here base stack state) (Leaves scope) (onto here stop stack) (Ends Spent)
-      out-of-units enough is =
-          ended m state.used 0 (at here base stack state) Spent
-          (ap (λ o. perform m.code m.world o (config here base stack state)) has.0 ∙ ap paying is ∙ spent enough is) fits
+      out-of-units (nat_le (state.used + 1) m.world.budget) scope base stop stack state refl has.0 fits bound
   turns-follow (suc left) test body work course scope base stop stack state gives block has ends cost scoped fits bound =
       let tested = test scope (base + 1) in
       let pc = base + 1 + length tested in
@@ -161,6 +171,6 @@ module _ (m : Machine) (here : Here) where
   pub while-form : (test body : Coder) (work : Work Value) (course : Course) → operands.Gives m here test work → courses.Block m here body course
       → courses.Form m here (while_code test body) [] (turns m.world m.world.budget work course)
   while-form test body work course gives block scope base stop stack state has ends room scoped fits =
-      same-scope scope (length (while_code test body scope base) + 2) (at here base stack state) state.used stop stack _
-      (wider m state.used 0 (length (while_code test body scope base) + 2) (at here base stack state) (turns m.world m.world.budget work course state) (omega arith)
+      same-scope scope (length (while_code test body scope base) + 3) (at here base stack state) state.used stop stack _
+      (wider m state.used 0 (length (while_code test body scope base) + 3) (at here base stack state) (turns m.world m.world.budget work course state) (omega arith)
       (turns-follow m.world.budget test body work course scope base stop stack state gives block has ends room scoped fits (omega arith)))

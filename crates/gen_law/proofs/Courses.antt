@@ -57,7 +57,7 @@ module _ (m : Machine) (here : Here) where
 
   -- a form of statement, behind its unit
   abbrev pub Form : Coder → List Param → Course → Type 0
-  Form coder declares course = Matches (λ many. many + 2) 4 coder declares course
+  Form coder declares course = Matches (λ many. many + 3) 4 coder declares course
 
   -- work that hands on no value
   abbrev pub Works : Coder → List Param → Work (Unit {0}) → Type 0
@@ -65,12 +65,12 @@ module _ (m : Machine) (here : Here) where
       (scope : List Param) (base stop : ℕ) (stack : List Value) (state : State)
       → Has base (coder scope base) → base + length (coder scope base) ≡ stop
       → InScope scope state.locals → state.used ≤ m.world.budget
-      → Follow m state.used (length (coder scope base) + 2) (at here base stack state) (Behind (scope ++ declares)) (reached here stop stack) (work state)
+      → Follow m state.used (length (coder scope base) + 3) (at here base stack state) (Behind (scope ++ declares)) (reached here stop stack) (work state)
 
   -- work that only goes on
   pub works-form : (coder : Coder) (declares : List Param) (work : Work (Unit {0})) → Works coder declares work → Form coder declares (goes_on work)
   works-form coder declares work works scope base stop stack state has ends room scoped fits =
-      bind m (Behind (scope ++ declares)) (reached here stop stack) state.used (length (coder scope base) + 2) 0 (length (coder scope base) + 2) (at here base stack state) (work state) (λ _. give None) (omega arith)
+      bind m (Behind (scope ++ declares)) (reached here stop stack) state.used (length (coder scope base) + 3) 0 (length (coder scope base) + 3) (at here base stack state) (work state) (λ _. give None) (omega arith)
       (works scope base stop stack state has ends scoped fits)
       (λ value later grows within scoped'. arrived m {P = Leaves (scope ++ declares)} {K = onto here stop stack} None later 0 within scoped')
 
@@ -79,11 +79,11 @@ module _ (m : Machine) (here : Here) where
       → Statement (emit (op.Charge 1 ∷ []) ▸ coder) declares (charge m.world 1 >>= (λ _. course))
   form-statement coder declares course form scope base stop stack state has ends room scoped fits =
       let rest = coder scope (base + 1) in
-      standing.charged m here (length rest + 2) base stack state course has.0 fits (omega arith)
+      standing.charged m here (length rest + 3) base stack state course has.0 fits (omega arith)
       (λ within. form scope (base + 1) stop stack (record state { used = state.used + 1 }) has.1 (omega (arith, ends)) (omega (arith, room)) scoped within)
 
   -- behind one statement the others, unless it returned
-  behind-matches : (slack : ℕ) (rest : Course) (scope : List Param) (stop stop' : ℕ) (stack : List Value) (out : List Param) (returned : Option Value) (later : State)
+  pub behind-matches : (slack : ℕ) (rest : Course) (scope : List Param) (stop stop' : ℕ) (stack : List Value) (out : List Param) (returned : Option Value) (later : State)
       → later.used ≤ m.world.budget → Leaves scope returned later
       → (InScope scope later.locals → Follow m later.used slack (at here stop stack later) (Leaves out) (onto here stop' stack) (rest later))
       → Follow m later.used slack (onto here stop stack returned later) (Leaves out) (onto here stop' stack) (behind rest returned later)

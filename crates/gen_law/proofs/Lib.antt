@@ -9,3 +9,8 @@ pub mod Blocks
 pub mod Acts
 pub mod Returns
 pub mod Branches
+pub mod Gets
+pub mod MultiGets
+pub mod Calls
+pub mod TypedCalls
+pub mod Trees

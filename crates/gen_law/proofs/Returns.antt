@@ -50,7 +50,7 @@ module _ (m : Machine) (here : Here) where
       let last : List Op = op.Return ∷ [] in
       let parts = standing.split m here base first last has in
       let many = length-append first last in
-      operands.operand m here coder work (λ result. give (Some result)) gives scope base 1 (length (first ++ last) + 2) stack state parts.0 scoped fits (omega (arith, many))
+      operands.operand m here coder work (λ result. give (Some result)) gives scope base 1 (length (first ++ last) + 3) stack state parts.0 scoped fits (omega (arith, many))
       (λ own later grows scoped' within.
       returned (scope ++ []) 1 (base + length first) stop stack stack (values later.locals) own later parts.1.0 within (omega arith))
 
@@ -59,7 +59,7 @@ module _ (m : Machine) (here : Here) where
   moved-returned name scope base stop stack state has ends room scoped fits =
       let own = slot (values state.locals) (slot_of scope name) in
       let slots = slice_set (values state.locals) (slot_of scope name) nothing in
-      standing.instructed m here state.used 1 4 base stack state (op.Move (slot_of scope name)) (Next (Some (value_of name state.locals)) state) has.0 (omega arith)
+      standing.instructed m here state.used 1 5 base stack state (op.Move (slot_of scope name)) (Next (Some (value_of name state.locals)) state) has.0 (omega arith)
       (subst (λ v. Follow m state.used 1 (Going (record (config here (base + 1) (own ∷ stack) state) { slots = slots })) (Leaves (scope ++ [])) (onto here stop stack) (Next (Some v) state)) (slot-value scope state.locals name scoped)
       (returned (scope ++ []) 1 (base + 1) stop stack stack slots own state has.1.0 fits (omega arith)))
 
