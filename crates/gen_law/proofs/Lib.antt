@@ -14,3 +14,6 @@ pub mod MultiGets
 pub mod Calls
 pub mod TypedCalls
 pub mod Trees
+pub mod Named
+pub mod Functions
+pub mod Programs

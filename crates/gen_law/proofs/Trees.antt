@@ -20,7 +20,8 @@ use Rattle.ext_mean.specs.Typing.{Checked, Codes, checked, block_codes, inner_co
 use Rattle.ext_mean.specs.Work.{World, Work}
 use Rattle.ext_mean.proofs.Equations.{execute-roll, run_block-roll}
 use Rattle.gen_code.specs.Codes as codes
-use Rattle.gen_code.specs.Codes.{StatementCode, BlockCode, number_below, statement_ops, block_form}
+use Rattle.gen_code.specs.declared.op.Op.TheVariants as op
+use Rattle.gen_code.specs.Codes.{◌▸◌, on_slot, StatementCode, BlockCode, number_below, statement_ops, block_form}
 use Rattle.gen_law.proofs.Following.{Machine}
 use Rattle.gen_law.proofs.Standing.{Here}
 use Rattle.gen_law.proofs.Expressions as expressions
@@ -117,7 +118,7 @@ module _ (m : Machine) (here : Here) (functions : List Function) (count : ℕ) (
       courses.works-form m here _ _ _ (acts.set8-works m here name _ _ _ _ (given place) (given expression))
   form-followed (Statement-F.Copy name place source) scope fault =
       courses.works-form m here _ _ _ (acts.copy-works m here name _ _ _ _ (given place) (given source))
-  form-followed (Statement-F.Put name) scope fault = courses.works-form m here _ _ _ (acts.put-works m here name)
+  form-followed (Statement-F.Put name) scope fault = courses.works-form m here (on_slot op.Put name) _ _ (acts.put-works m here name)
   form-followed (Statement-F.Del table key) scope fault =
       courses.works-form m here _ _ _ (acts.del-works m here _ _ _ _ (given table) (given key))
   form-followed (Statement-F.Resp expression) scope fault =
@@ -164,7 +165,7 @@ module _ (m : Machine) (here : Here) (functions : List Function) (count : ℕ) (
       let clean = subst (λ (z : Codes). NoFault (z scope)) (block_codes-roll setting (plain-block y)) fault in
       subst₂ (λ code course. courses.Block m here code.ops course)
       (sym (block_code-roll functions count (plain-block y))) (sym (run_block-roll m.world calls (plain-block y)))
-      (subst₂ (λ (cs : List StatementCode) (ws : List Course). courses.Block m here (codes.in_order cs codes.▸ codes.dropped (codes.all_declared cs)) (meaning.scoped (one_by_one ws)))
+      (subst₂ (λ (cs : List StatementCode) (ws : List Course). courses.Block m here (codes.in_order cs ▸ codes.dropped (codes.all_declared cs)) (meaning.scoped (one_by_one ws)))
       (pieces-codes items) (pieces-courses items)
       (blocks.block-matches m here (codes.in_order (codes_of (pieces items))) (codes.all_declared (codes_of (pieces items))) (one_by_one (courses_of (pieces items)))
       (blocks.in-order m here (pieces items) (pieces-match items scope clean)))))
