@@ -1,33 +1,31 @@
 -- The machine follows statements with neither a block nor a call.
-use Rattle.std.specs.Prelude.{◌&&◌, ◌||◌, nat_lt, is_some}
-use Rattle.std.proofs.Common.{◌≡◌, ℕ, ◌+◌, ◌*◌, ◌≤◌, Bool, true, false, List, [], ◌∷◌, ◌++◌, length, Option, Some, None, refl, sym, ap, ◌∙◌, subst, arith, if◌then◌else◌, nat_le, slice_set, length-append, append-nil}
+use Rattle.std.specs.Prelude.{◌||◌, nat_lt, is_some}
+use Rattle.std.proofs.Common.{◌≡◌, ℕ, ◌+◌, ◌≤◌, Bool, true, false, List, [], ◌∷◌, ◌++◌, length, refl, sym, subst, arith, nat_le, slice_set, length-append, append-nil}
 use Rattle.sp_base.specs.declared.outcomes.Trap.{Trap}
 use Rattle.sp_base.specs.declared.outcomes.Trap.TheVariants.{Range, Size, Denied}
 use Rattle.sp_base.specs.declared.writes.Change.TheVariants as change
 use Rattle.sp_base.specs.declared.writes.Write.{Write}
 use Rattle.sp_base.specs.RightsList.{can_write}
 use Rattle.ext_mean.specs.declared.run.Run.TheVariants.{Trapped}
-use Rattle.ext_mean.specs.declared.expr.Expr.{Expr}
 use Rattle.ext_mean.specs.declared.state.State.{State}
 use Rattle.ext_mean.specs.declared.state.Value.{Value}
 use Rattle.ext_mean.specs.declared.state.Value.TheVariants as value
 use Rattle.ext_mean.specs.declared.tree.Param.{Param}
 use Rattle.ext_mean.specs.MeaningValues.{number_of, bytes_of, buffer_of, with_bytes, overwritten, word_bytes, value_of, assigned, declared, is_key, pending, changed, place_changed}
-use Rattle.ext_mean.specs.MeaningExpressions.{evaluate, variable}
+use Rattle.ext_mean.specs.MeaningExpressions.{variable}
 use Rattle.ext_mean.specs.MeaningStatements as meaning
 use Rattle.ext_mean.specs.MeaningStatements.{Course, declare, assign, overwrite, put, del, resp}
-use Rattle.ext_mean.specs.Work.{World, Step, Next, Ends, Work, after, ◌>>=◌, give, look, become, require}
+use Rattle.ext_mean.specs.Work.{Next, Work, after, ◌>>=◌, require}
 use Rattle.gen_code.specs.declared.op.Op.{Op}
 use Rattle.gen_code.specs.declared.op.Op.TheVariants as op
-use Rattle.gen_code.specs.Codes.{Coder, ◌▸◌, emit, on_slot, on_next, slot_of, value_ops}
+use Rattle.gen_code.specs.Codes.{Coder, ◌▸◌, emit, on_slot, on_next, slot_of}
 use Rattle.gen_code.specs.Machine as machine
 use Rattle.gen_code.specs.Machine.{Progress, Going, op_at, perform, slot, stored}
-use Rattle.gen_law.proofs.Following.{Machine, Follow, arrived, over, bind}
+use Rattle.gen_law.proofs.Following.{Machine, Follow, arrived, over}
 use Rattle.gen_law.proofs.Standing as standing
 use Rattle.gen_law.proofs.Standing.{Here, InScope, at, config, HasAt, values}
 use Rattle.gen_law.proofs.Slots.{slot-value, slot-assigned, stored-assigned, assigned-in-scope, stored-declared, declared-in-scope}
 use Rattle.gen_law.proofs.Operands as operands
-use Rattle.gen_law.proofs.Expressions as expressions
 use Rattle.gen_law.proofs.Courses as courses
 use Rattle.gen_law.proofs.Courses.{Behind, reached}
 

@@ -1,5 +1,5 @@
 -- The machine follows `if` and `while`.
-use Rattle.std.proofs.Common.{◌≡◌, ℕ, zero, suc, ◌+◌, ◌*◌, ◌≤◌, Bool, true, false, List, [], ◌∷◌, ◌++◌, length, Option, Some, None, refl, sym, ap, ◌∙◌, subst, arith, if◌then◌else◌, nat_le, length-append, append-nil}
+use Rattle.std.proofs.Common.{◌≡◌, ℕ, zero, suc, ◌+◌, ◌≤◌, Bool, true, false, List, [], ◌∷◌, ◌++◌, length, Option, Some, None, refl, sym, ap, ◌∙◌, subst, arith, if◌then◌else◌, nat_le, length-append, append-nil}
 use Rattle.std.proofs.lemmas.Bool.{leb-true}
 use Rattle.ext_mean.specs.declared.run.Run.TheVariants.{Spent}
 use Rattle.ext_mean.specs.declared.state.State.{State}
@@ -7,13 +7,12 @@ use Rattle.ext_mean.specs.declared.state.Value.{Value}
 use Rattle.ext_mean.specs.declared.tree.Param.{Param}
 use Rattle.ext_mean.specs.MeaningValues.{truth_of}
 use Rattle.ext_mean.specs.MeaningStatements.{Course, behind, branch, turns}
-use Rattle.ext_mean.specs.Work.{World, Step, Next, Ends, Work, after, ◌>>=◌, give, charge}
+use Rattle.ext_mean.specs.Work.{Step, Next, Ends, Work, after, ◌>>=◌, give}
 use Rattle.gen_code.specs.declared.op.Op.{Op}
 use Rattle.gen_code.specs.declared.op.Op.TheVariants as op
-use Rattle.gen_code.specs.Codes.{Coder, ◌▸◌, emit, if_code, while_code}
-use Rattle.gen_code.specs.Machine as machine
-use Rattle.gen_code.specs.Machine.{Progress, Going, Over, once, op_at, perform}
-use Rattle.gen_law.proofs.Following.{Machine, Follow, arrived, ended, bind, wider, raised}
+use Rattle.gen_code.specs.Codes.{Coder, if_code, while_code}
+use Rattle.gen_code.specs.Machine.{Progress, Over, op_at, perform}
+use Rattle.gen_law.proofs.Following.{Machine, Follow, arrived, ended, bind, wider}
 use Rattle.gen_law.proofs.Standing as standing
 use Rattle.gen_law.proofs.Standing.{Here, InScope, at, config, HasAt}
 use Rattle.gen_law.proofs.Operands as operands

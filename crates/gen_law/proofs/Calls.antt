@@ -1,19 +1,17 @@
 -- The machine follows calls, where it follows the functions that are called.
-use Rattle.std.proofs.Common.{◌≡◌, ℕ, zero, suc, ◌+◌, ◌*◌, ◌≤◌, Bool, true, false, List, [], ◌∷◌, ◌++◌, length, take, drop, reverse, map, Option, Some, None, refl, sym, ap, ◌∙◌, subst, arith, length-append, append_assoc}
+use Rattle.std.proofs.Common.{◌≡◌, ℕ, suc, ◌+◌, ◌≤◌, List, [], ◌∷◌, ◌++◌, length, take, drop, reverse, map, refl, sym, ap, ◌∙◌, subst, arith, length-append, append_assoc}
 use Rattle.std.proofs.Math.Seq.{take-append_seam}
 use Rattle.std.proofs.lemmas.List.{reverse-append, reverse-reverse, length-reverse}
 use Rattle.ext_mean.specs.declared.expr.Expr.{Expr}
-use Rattle.ext_mean.specs.declared.state.Local.{Local}
 use Rattle.ext_mean.specs.declared.state.State.{State}
 use Rattle.ext_mean.specs.declared.state.Value.{Value}
-use Rattle.ext_mean.specs.declared.tree.Function.{Function}
 use Rattle.ext_mean.specs.declared.tree.Param.{Param}
 use Rattle.ext_mean.specs.MeaningExpressions.{evaluate}
-use Rattle.ext_mean.specs.MeaningStatements.{Calls, declare}
-use Rattle.ext_mean.specs.Work.{World, Step, Next, Ends, Work, after, ◌>>=◌, give, in_order}
+use Rattle.ext_mean.specs.MeaningStatements.{declare}
+use Rattle.ext_mean.specs.Work.{Next, Work, ◌>>=◌, give, in_order}
 use Rattle.gen_code.specs.declared.op.Op.{Op}
 use Rattle.gen_code.specs.declared.op.Op.TheVariants as op
-use Rattle.gen_code.specs.Codes.{Coder, ◌▸◌, emit, on_next, all_values, number_below, value_ops}
+use Rattle.gen_code.specs.Codes.{◌▸◌, emit, on_next, all_values, value_ops}
 use Rattle.gen_code.specs.Machine as machine
 use Rattle.gen_code.specs.Machine.{Frame, Progress, Going, Working, op_at, perform, function_at}
 use Rattle.gen_law.proofs.Following.{Machine, Follow, arrived, bind, turned}

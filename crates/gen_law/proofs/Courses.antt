@@ -1,20 +1,18 @@
 -- The machine follows statements and blocks: each goes on behind itself, or has returned to the caller.
-use Rattle.std.proofs.Common.{◌≡◌, ℕ, ◌+◌, ◌*◌, ◌≤◌, Bool, true, false, List, [], ◌∷◌, ◌++◌, length, take, map, Option, Some, None, refl, sym, ap, ◌∙◌, subst, arith, length-append, append-nil, append_assoc}
-use Rattle.ext_mean.specs.declared.state.Local.{Local}
+use Rattle.std.proofs.Common.{◌≡◌, ℕ, ◌+◌, ◌≤◌, List, [], ◌∷◌, ◌++◌, length, Option, Some, None, refl, arith}
 use Rattle.ext_mean.specs.declared.state.State.{State}
 use Rattle.ext_mean.specs.declared.state.Value.{Value}
 use Rattle.ext_mean.specs.declared.tree.Param.{Param}
-use Rattle.ext_mean.specs.MeaningStatements.{Course, behind, one_by_one, scoped, goes_on, forget}
-use Rattle.ext_mean.specs.Work.{World, Step, Next, Ends, Work, after, ◌>>=◌, give, charge}
+use Rattle.ext_mean.specs.MeaningStatements.{Course, behind, scoped, goes_on}
+use Rattle.ext_mean.specs.Work.{Work, after, ◌>>=◌, give, charge}
 use Rattle.gen_code.specs.declared.op.Op.{Op}
 use Rattle.gen_code.specs.declared.op.Op.TheVariants as op
-use Rattle.gen_code.specs.Codes.{Coder, ◌▸◌, emit, StatementCode, in_order, all_declared, dropped}
+use Rattle.gen_code.specs.Codes.{Coder, ◌▸◌, emit}
 use Rattle.gen_code.specs.Machine as machine
 use Rattle.gen_code.specs.Machine.{Progress, Going, op_at}
-use Rattle.gen_law.proofs.Following.{Machine, Follow, arrived, bind, wider, raised}
+use Rattle.gen_law.proofs.Following.{Machine, Follow, arrived, bind}
 use Rattle.gen_law.proofs.Standing as standing
 use Rattle.gen_law.proofs.Standing.{Here, InScope, at, config, HasAt, values}
-use Rattle.gen_law.proofs.Slots.{in-scope-length, locals-length, take-in-scope, take-all-in-scope, values-take}
 
 -- where a course leads: behind itself, or back to the caller with the value that it returned
 abbrev pub onto : Here → ℕ → List Value → Option Value → State → Progress

@@ -1,6 +1,5 @@
 -- The machine follows expressions.
-use Rattle.std.specs.Prelude.{◌/◌, ◌&&◌}
-use Rattle.std.proofs.Common.{◌≡◌, ℕ, ◌+◌, ◌*◌, ◌≤◌, Bool, true, false, not, List, [], ◌∷◌, ◌++◌, length, refl, sym, ap, ◌∙◌, subst, subst₂, arith, if◌then◌else◌, nat_le, length-append}
+use Rattle.std.proofs.Common.{◌≡◌, ℕ, ◌+◌, ◌≤◌, Bool, true, false, not, List, [], ◌∷◌, ◌++◌, length, refl, sym, subst, subst₂, arith, if◌then◌else◌, length-append}
 use Rattle.ext_mean.specs.declared.expr.BinOp.{BinOp}
 use Rattle.ext_mean.specs.declared.expr.BinOp.TheVariants as operator
 use Rattle.ext_mean.specs.declared.expr.Expr.{Expr}
@@ -12,17 +11,16 @@ use Rattle.ext_mean.specs.declared.state.Value.{Value}
 use Rattle.ext_mean.specs.declared.state.Value.TheVariants as value
 use Rattle.ext_mean.specs.declared.statement.Kind.{Kind}
 use Rattle.ext_mean.specs.declared.tree.Param.{Param}
-use Rattle.ext_mean.specs.MeaningValues.{number_of, truth_of, bytes_of, buffer_of, value_of}
+use Rattle.ext_mean.specs.MeaningValues.{truth_of, buffer_of, value_of}
 use Rattle.ext_mean.specs.MeaningExpressions as meaning
 use Rattle.ext_mean.specs.MeaningExpressions.{evaluate, expression_form, operate, binary}
-use Rattle.ext_mean.specs.Work.{World, Step, Next, Ends, Work, after, ◌>>=◌, give}
+use Rattle.ext_mean.specs.Work.{Next, Work, ◌>>=◌, give}
 use Rattle.ext_mean.proofs.Equations.{evaluate-roll}
 use Rattle.gen_code.specs.declared.op.Op.{Op}
 use Rattle.gen_code.specs.declared.op.Op.TheVariants as op
 use Rattle.gen_code.specs.Codes as codes
 use Rattle.gen_code.specs.Codes.{Coder, ◌▸◌, emit, on_slot, slot_of, ExpressionCode, expression_code, and_code, or_code, binary_code, operator_ops, value_ops}
-use Rattle.gen_code.specs.Machine as machine
-use Rattle.gen_code.specs.Machine.{Progress, perform, slot, op_at}
+use Rattle.gen_code.specs.Machine.{perform, slot, op_at}
 use Rattle.gen_law.proofs.Following.{Machine, Follow, bind}
 use Rattle.gen_law.proofs.Standing as standing
 use Rattle.gen_law.proofs.Standing.{Here, InScope, Scoped, at, config, pushed, values}

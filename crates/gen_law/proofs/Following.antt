@@ -1,19 +1,11 @@
 -- The machine follows a piece of work: from where it stands, so many turns bring it to where the work
 -- hands on its value, or the run is over as the work ends it. The turns are paid for by the units used.
-use Rattle.std.proofs.Common.{◌≡◌, ℕ, zero, suc, ◌+◌, ◌*◌, ◌≤◌, Bool, true, false, List, [], ◌∷◌, ◌++◌, length, Option, Some, None, refl, sym, ap, ◌∙◌, subst, arith, if◌then◌else◌, nat_le, suc-add, zero-add, mul-add, mul-one, mul-suc, mul-le-mul_left}
-use Rattle.std.proofs.lemmas.Bool.{leb-true, leb-false}
-use Rattle.sp_base.specs.declared.outcomes.Trap.{Trap}
+use Rattle.std.proofs.Common.{◌≡◌, ℕ, zero, suc, ◌+◌, ◌*◌, ◌≤◌, refl, ap, ◌∙◌, arith, suc-add, zero-add, mul-add, mul-one, mul-le-mul_left}
 use Rattle.ext_mean.specs.declared.run.Run.{Run}
-use Rattle.ext_mean.specs.declared.run.Run.TheVariants.{Trapped, Spent}
-use Rattle.ext_mean.specs.declared.state.Local.{Local}
 use Rattle.ext_mean.specs.declared.state.State.{State}
-use Rattle.ext_mean.specs.declared.state.Value.{Value}
-use Rattle.ext_mean.specs.Work.{World, Step, Next, Ends, Work, after, ◌>>=◌, give, charge, require}
+use Rattle.ext_mean.specs.Work.{World, Step, Next, Ends, Work, after}
 use Rattle.gen_code.specs.declared.code.Code.{Code}
-use Rattle.gen_code.specs.declared.op.Op.{Op}
-use Rattle.gen_code.specs.declared.op.Op.TheVariants as op
-use Rattle.gen_code.specs.Machine as machine
-use Rattle.gen_code.specs.Machine.{Config, Frame, Progress, Going, Over, Working, Reading, once, steps, perform, op_at}
+use Rattle.gen_code.specs.Machine.{Progress, Over, once, steps}
 
 -- a machine: its code, its world, and how many turns each unit pays for
 pub record Machine : Type 0 where
@@ -74,14 +66,16 @@ module _ (m : Machine) where
   -- a turn, and what follows from where it leads
   turned-step : {A : Type 0} (P : A → State → Type 0) (K : A → State → Progress) (before slack slack' : ℕ) (from there : Progress) (step : Step A)
       → once m.code m.world from ≡ there → slack + 1 ≤ slack' → FollowFact m before slack there P K step → FollowFact m before slack' from P K step
-  turned-step P K before slack slack' from there (Next value state) turn more fact =
-      (record {
-        count = suc fact.0.count;
-        arrives = ap (λ p. steps m.code m.world fact.0.count p) turn ∙ fact.0.arrives;
-        cheap = (let cheap = fact.0.cheap in omega arith);
-        grows = fact.0.grows;
-        within = fact.0.within;
-      }, fact.1)
+  turned-step P K before slack slack' from there (Next value state) turn more fact = (
+    record {
+      count = suc fact.0.count;
+      arrives = ap (λ p. steps m.code m.world fact.0.count p) turn ∙ fact.0.arrives;
+      cheap = (let cheap = fact.0.cheap in omega arith);
+      grows = fact.0.grows;
+      within = fact.0.within;
+    },
+    fact.1,
+  )
   turned-step P K before slack slack' from there (Ends run) turn more fact =
       record {
         count = suc fact.count;
@@ -109,20 +103,22 @@ module _ (m : Machine) where
   -- turns that lead to a place, and what follows from there
   joined : {B : Type 0} (P : B → State → Type 0) (K : B → State → Progress) (before used slack1 slack2 slack : ℕ) (from middle : Progress) (step : Step B)
       → slack1 + slack2 ≤ slack → Continues m before slack1 from middle used → FollowFact m used slack2 middle P K step → FollowFact m before slack from P K step
-  joined P K before used slack1 slack2 slack from middle (Next value state) sum first second =
-      (record {
-        count = first.count + second.0.count;
-        arrives = steps-add m.code m.world first.count second.0.count from
+  joined P K before used slack1 slack2 slack from middle (Next value state) sum first second = (
+    record {
+      count = first.count + second.0.count;
+      arrives = steps-add m.code m.world first.count second.0.count from
           ∙ ap (λ p. steps m.code m.world second.0.count p) first.arrives ∙ second.0.arrives;
-        cheap = (let one = first.cheap in let other = second.0.cheap in omega arith);
-        grows = (let one = first.grows in let other = second.0.grows in omega arith);
-        within = second.0.within;
-      }, second.1)
+      cheap = (let one = first.cheap in let other = second.0.cheap in omega arith);
+      grows = (let one = first.grows in let other = second.0.grows in omega arith);
+      within = second.0.within;
+    },
+    second.1,
+  )
   joined P K before used slack1 slack2 slack from middle (Ends run) sum first second =
       record {
         count = first.count + second.count;
         arrives = steps-add m.code m.world first.count second.count from
-          ∙ ap (λ p. steps m.code m.world second.count p) first.arrives ∙ second.arrives;
+            ∙ ap (λ p. steps m.code m.world second.count p) first.arrives ∙ second.arrives;
         cheap = (let one = first.cheap in let other = second.cheap in omega arith);
       }
 

@@ -1,40 +1,27 @@
 -- The machine follows the functions of a typed program, those before each first.
-use Rattle.std.proofs.Common.{◌≡◌, ℕ, zero, suc, ◌+◌, ◌*◌, ◌≤◌, ◌<◌, ◌==◌, ◌&&◌, Bool, true, false, not, ◌||◌, List, [], ◌∷◌, ◌++◌, length, take, Option, Some, None, refl, sym, ap, ◌∙◌, subst, arith, if◌then◌else◌, slice_get, unwrap_or, is_none, length-append, append-nil, append_assoc, add-one}
-use Rattle.std.specs.Str.{bytes_eq}
-use Rattle.std.proofs.lemmas.Slice.Eq.{bytes_eq-Decides}
-use Rattle.ext_mean.specs.declared.check_codes.TypeCode.{TypeCode}
-use Rattle.ext_mean.specs.declared.check_codes.TypeCode.TheVariants as fault
+use Rattle.std.proofs.Common.{◌≡◌, ℕ, ◌+◌, ◌≤◌, List, [], ◌∷◌, ◌++◌, length, take, Option, Some, None, refl, sym, ap, ◌∙◌, subst, arith, slice_get, unwrap_or, length-append, append_assoc}
 use Rattle.ext_mean.specs.declared.state.State.{State}
 use Rattle.ext_mean.specs.declared.state.Value.{Value}
-use Rattle.ext_mean.specs.declared.state.Value.TheVariants as value
-use Rattle.ext_mean.specs.declared.statement.Kind.TheVariants as kind
 use Rattle.ext_mean.specs.declared.tree.Function.{Function}
 use Rattle.ext_mean.specs.declared.tree.Param.{Param}
-use Rattle.ext_mean.specs.Items.{ends_with_return}
-use Rattle.ext_mean.specs.Types.{earlier, same_kind, unless}
-use Rattle.ext_mean.specs.TypesOfItems.{function_named}
-use Rattle.ext_mean.specs.Typing.{block_codes, head_code, is_main, repeats, setting_of}
+use Rattle.ext_mean.specs.Typing.{block_codes, setting_of}
 use Rattle.ext_mean.specs.MeaningValues.{nothing, bound}
 use Rattle.ext_mean.specs.MeaningStatements.{Calls, run_block}
 use Rattle.ext_mean.specs.Meaning as meaning
 use Rattle.ext_mean.specs.Meaning.{call_below, is_named, run_function}
-use Rattle.ext_mean.specs.Work.{World, Step, Next, Ends, Work, after, ◌>>=◌, give}
-use Rattle.gen_code.specs.declared.code.CodeFn.{CodeFn}
+use Rattle.ext_mean.specs.Work.{Next, ◌>>=◌, give}
 use Rattle.gen_code.specs.declared.op.Op.{Op}
 use Rattle.gen_code.specs.declared.op.Op.TheVariants as op
 use Rattle.gen_code.specs.Codes as codes
 use Rattle.gen_code.specs.Codes.{number_below, function_code}
-use Rattle.gen_code.specs.Machine as machine
-use Rattle.gen_code.specs.Machine.{Frame, Progress, function_at, op_at}
-use Rattle.gen_law.proofs.Following.{Machine, Follow, arrived, bind, wider}
+use Rattle.gen_code.specs.Machine.{function_at}
+use Rattle.gen_law.proofs.Following.{Machine, Follow, arrived, bind}
 use Rattle.gen_law.proofs.Standing as standing
 use Rattle.gen_law.proofs.Standing.{Here, InScope, at, values, HasAt}
-use Rattle.gen_law.proofs.Courses as courses
 use Rattle.gen_law.proofs.Courses.{onto, Leaves}
-use Rattle.gen_law.proofs.Calls as called
-use Rattle.gen_law.proofs.Calls.{IsCalled, Comes, Kept, backed, entering}
+use Rattle.gen_law.proofs.Calls.{Comes, Kept, backed, entering}
 use Rattle.gen_law.proofs.Trees as trees
-use Rattle.gen_law.proofs.TypedCalls.{NoFault, earlier-none}
+use Rattle.gen_law.proofs.TypedCalls.{NoFault}
 
 -- arguments become the parameters
 pub bound-values : (params : List Param) (own : List Value) → length own ≡ length params → values (bound params own) ≡ own
@@ -52,10 +39,11 @@ bound-in-scope (param ∷ params) (first ∷ rest) same = (refl, bound-in-scope 
 -- the instructions of a function stand in it from 0 on
 pub has-all : (m : Machine) (number : ℕ) (before ops : List Op) → (function_at m.code number).ops ≡ before ++ ops → HasAt m.code number (length before) ops
 has-all m number before [] same = tt
-has-all m number before (first ∷ ops) same =
-    (ap (λ all. unwrap_or (slice_get all (length before)) op.Return) same ∙ ap (λ o. unwrap_or o op.Return) (seam before (first ∷ ops)),
-    subst (λ n. HasAt m.code number n ops) (length-append before (first ∷ []))
-    (has-all m number (before ++ first ∷ []) ops (same ∙ sym (append_assoc before (first ∷ []) ops))))
+has-all m number before (first ∷ ops) same = (
+  ap (λ all. unwrap_or (slice_get all (length before)) op.Return) same ∙ ap (λ o. unwrap_or o op.Return) (seam before (first ∷ ops)),
+  subst (λ n. HasAt m.code number n ops) (length-append before (first ∷ []))
+      (has-all m number (before ++ first ∷ []) ops (same ∙ sym (append_assoc before (first ∷ []) ops))),
+)
   where
     seam : (before rest : List Op) → slice_get (before ++ rest) (length before) ≡ slice_get rest 0
     seam [] rest = refl

@@ -1,9 +1,7 @@
 -- The machine follows `get` and `multiget`.
-use Rattle.std.specs.Prelude.{◌&&◌, ◌==◌, ◌%◌, ◌/◌}
-use Rattle.std.proofs.Common.{◌≡◌, ℕ, zero, suc, ◌+◌, ◌*◌, ◌≤◌, Bool, true, false, List, [], ◌∷◌, ◌++◌, length, take, drop, map, Option, Some, None, refl, sym, ap, ◌∙◌, subst, arith, if◌then◌else◌, nat_le, length-append, append-nil, drop-drop}
+use Rattle.std.proofs.Common.{◌≡◌, ℕ, ◌+◌, ◌≤◌, Bool, true, false, List, [], ◌∷◌, ◌++◌, length, Option, Some, None, refl, subst, arith, if◌then◌else◌, nat_le, length-append, append-nil}
 use Rattle.std.proofs.lemmas.Bool.{leb-true}
-use Rattle.sp_base.specs.declared.outcomes.Trap.{Trap}
-use Rattle.sp_base.specs.declared.outcomes.Trap.TheVariants.{Size, Denied, Width}
+use Rattle.sp_base.specs.declared.outcomes.Trap.TheVariants.{Size, Denied}
 use Rattle.sp_base.specs.declared.writes.Change.{Change}
 use Rattle.sp_base.specs.Places.{Place}
 use Rattle.sp_base.specs.RightsList.{can_read}
@@ -13,20 +11,19 @@ use Rattle.ext_mean.specs.declared.state.Value.{Value}
 use Rattle.ext_mean.specs.declared.state.Value.TheVariants as value
 use Rattle.ext_mean.specs.declared.statement.Kind.TheVariants as kind
 use Rattle.ext_mean.specs.declared.tree.Param.{Param}
-use Rattle.ext_mean.specs.MeaningValues.{nothing, number_of, bytes_of, pending, left_by, is_key, pieces, part_of, declared}
-use Rattle.ext_mean.specs.MeaningStatements as meaning
-use Rattle.ext_mean.specs.MeaningStatements.{Course, behind, arm, get, multiget, one_by_one, scoped, declare, found, read, forget}
+use Rattle.ext_mean.specs.MeaningValues.{number_of, bytes_of, pending, left_by, is_key}
+use Rattle.ext_mean.specs.MeaningStatements.{Course, arm, get, scoped, declare, found, read, forget}
 use Rattle.ext_mean.specs.Typing.{arm_name}
-use Rattle.ext_mean.specs.Work.{World, Step, Next, Ends, Work, after, ◌>>=◌, give, charge, require, known_or_wanted}
+use Rattle.ext_mean.specs.Work.{Step, Next, Ends, Work, after, ◌>>=◌, give, charge, require, known_or_wanted}
 use Rattle.gen_code.specs.declared.op.Op.{Op}
 use Rattle.gen_code.specs.declared.op.Op.TheVariants as op
-use Rattle.gen_code.specs.Codes.{Coder, ◌▸◌, emit, found_code, get_code, multi_code}
+use Rattle.gen_code.specs.Codes.{Coder, ◌▸◌, found_code, get_code}
 use Rattle.gen_code.specs.Machine as machine
 use Rattle.gen_code.specs.Machine.{Asker, ForGet, ForMulti, Config, Progress, Going, Over, Reading, once, op_at, perform}
-use Rattle.gen_law.proofs.Following.{Machine, Follow, arrived, over, ended, turned, refunded, bind, wider, raised}
+use Rattle.gen_law.proofs.Following.{Machine, Follow, arrived, over, turned, refunded, bind, wider}
 use Rattle.gen_law.proofs.Standing as standing
 use Rattle.gen_law.proofs.Standing.{Here, InScope, at, config, HasAt, values}
-use Rattle.gen_law.proofs.Slots.{locals-length, stored-dropped}
+use Rattle.gen_law.proofs.Slots.{locals-length}
 use Rattle.gen_law.proofs.Operands as operands
 use Rattle.gen_law.proofs.Courses as courses
 use Rattle.gen_law.proofs.Courses.{onto, Leaves, Behind, reached}

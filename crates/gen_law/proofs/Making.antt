@@ -1,6 +1,6 @@
 -- What the last instructions of an expression make of its operands.
-use Rattle.std.specs.Prelude.{◌/◌, ◌&&◌, ◌-◌, ◌%◌, ◌^◌, nat_lt}
-use Rattle.std.proofs.Common.{◌≡◌, ℕ, ◌+◌, ◌*◌, ◌≤◌, Bool, true, false, not, List, [], ◌∷◌, ◌++◌, length, replicate, refl, sym, ap, ◌∙◌, subst, arith, if◌then◌else◌, nat_le, slice_index}
+use Rattle.std.specs.Prelude.{◌/◌, ◌&&◌, ◌%◌, nat_lt}
+use Rattle.std.proofs.Common.{◌≡◌, ℕ, ◌+◌, ◌≤◌, Bool, true, false, not, List, [], ◌∷◌, ◌++◌, length, replicate, refl, sym, ap, subst, arith, if◌then◌else◌, nat_le, slice_index}
 use Rattle.std.proofs.lemmas.Bool.{leb-true, leb-false, le-leb, le-ltb, lt-ltb, lt-leb, ltb-true, ltb-false}
 use Rattle.sp_base.specs.declared.outcomes.Trap.{Trap}
 use Rattle.sp_base.specs.declared.outcomes.Trap.TheVariants.{Range, Divide, Size, Denied}
@@ -16,7 +16,7 @@ use Rattle.ext_mean.specs.declared.statement.Kind.TheVariants as kind
 use Rattle.ext_mean.specs.declared.tree.Param.{Param}
 use Rattle.ext_mean.specs.MeaningValues.{number_of, truth_of, bytes_of, word_of, part_of, same_value, is_key}
 use Rattle.ext_mean.specs.MeaningExpressions.{operate, byte_at, word_at, sub_at, new_temp, new_buffer}
-use Rattle.ext_mean.specs.Work.{World, Step, Next, Ends, Work, after, ◌>>=◌, give, charge, require}
+use Rattle.ext_mean.specs.Work.{Next, Ends, Work, after, ◌>>=◌, give, charge, require}
 use Rattle.gen_code.specs.declared.op.Op.{Op}
 use Rattle.gen_code.specs.declared.op.Op.TheVariants as op
 use Rattle.gen_code.specs.Codes.{equality, operator_ops}

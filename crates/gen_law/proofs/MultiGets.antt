@@ -1,7 +1,7 @@
 -- The machine follows `multiget`: a turn for each key.
-use Rattle.std.specs.Prelude.{◌&&◌, ◌==◌, ◌%◌, ◌/◌, IsTrue}
-use Rattle.std.proofs.Common.{◌≡◌, ℕ, zero, suc, ◌+◌, ◌*◌, ◌≤◌, Bool, true, false, List, [], ◌∷◌, ◌++◌, length, take, drop, map, Option, Some, None, refl, sym, ap, ◌∙◌, subst, arith, if◌then◌else◌, nat_le, length-append, append-nil, suc-mul}
-use Rattle.std.proofs.lemmas.Bool.{leb-true, le-leb, lt-leb}
+use Rattle.std.specs.Prelude.{◌&&◌, ◌==◌, ◌%◌, ◌/◌}
+use Rattle.std.proofs.Common.{◌≡◌, ℕ, zero, suc, ◌+◌, ◌*◌, ◌≤◌, Bool, true, false, List, [], ◌∷◌, ◌++◌, length, drop, map, Option, Some, None, refl, sym, ap, subst, arith, if◌then◌else◌, nat_le, length-append, suc-mul}
+use Rattle.std.proofs.lemmas.Bool.{le-leb, lt-leb}
 use Rattle.std.proofs.lemmas.Bool.Decides.{nat_tests}
 use Rattle.std.proofs.lemmas.List.{drop-drop}
 use Rattle.std.proofs.lemmas.Nat.{div-add-mod'}
@@ -12,9 +12,9 @@ use Rattle.ext_mean.specs.declared.state.State.{State}
 use Rattle.ext_mean.specs.declared.state.Value.{Value}
 use Rattle.ext_mean.specs.declared.state.Value.TheVariants as value
 use Rattle.ext_mean.specs.declared.tree.Param.{Param}
-use Rattle.ext_mean.specs.MeaningValues.{nothing, number_of, bytes_of, truth_of, pieces, part_of}
+use Rattle.ext_mean.specs.MeaningValues.{nothing, number_of, bytes_of, pieces, part_of}
 use Rattle.ext_mean.specs.MeaningStatements.{Course, behind, arm, multiget, one_by_one, read}
-use Rattle.ext_mean.specs.Work.{World, Step, Next, Ends, Work, after, ◌>>=◌, give, require}
+use Rattle.ext_mean.specs.Work.{Step, Next, Ends, Work, after, ◌>>=◌, require}
 use Rattle.ext_mean.proofs.Pieces.{and-both, width-tested}
 use Rattle.gen_code.specs.declared.op.Op.{Op}
 use Rattle.gen_code.specs.declared.op.Op.TheVariants as op

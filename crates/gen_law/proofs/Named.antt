@@ -1,13 +1,12 @@
 -- Functions by their names and numbers, and what typing says of each.
-use Rattle.std.proofs.Common.{◌≡◌, ℕ, zero, suc, ◌+◌, ◌*◌, ◌≤◌, ◌<◌, ◌==◌, ◌&&◌, ◌||◌, not, Bool, true, false, List, [], ◌∷◌, ◌++◌, length, take, Option, Some, None, refl, sym, ap, ◌∙◌, subst, arith, if◌then◌else◌, slice_get, is_none, length-append, add-zero}
+use Rattle.std.proofs.Common.{◌≡◌, ℕ, zero, suc, ◌+◌, ◌≤◌, ◌<◌, ◌==◌, ◌&&◌, ◌||◌, not, Bool, true, false, List, [], ◌∷◌, ◌++◌, length, take, Option, Some, None, refl, sym, ap, subst, arith, if◌then◌else◌, slice_get, is_none, add-zero}
 use Rattle.std.specs.Str.{bytes_eq}
-use Rattle.std.proofs.lemmas.Slice.Eq.{bytes_eq-Decides}
 use Rattle.ext_mean.specs.declared.check_codes.TypeCode.{TypeCode}
 use Rattle.ext_mean.specs.declared.check_codes.TypeCode.TheVariants as fault
 use Rattle.ext_mean.specs.declared.statement.Kind.TheVariants as kind
 use Rattle.ext_mean.specs.declared.tree.Function.{Function}
 use Rattle.ext_mean.specs.Items.{ends_with_return}
-use Rattle.ext_mean.specs.Types.{earlier, same_kind, unless}
+use Rattle.ext_mean.specs.Types.{same_kind, unless}
 use Rattle.ext_mean.specs.TypesOfItems.{function_named}
 use Rattle.ext_mean.specs.Typing as typing
 use Rattle.ext_mean.specs.Typing.{block_codes, head_code, is_main, repeats, setting_of}

@@ -1,30 +1,23 @@
 -- The machine follows the whole program, from its beginning to its end.
-use Rattle.std.proofs.Common.{◌≡◌, ℕ, zero, suc, ◌+◌, ◌-◌, ◌*◌, ◌≤◌, ◌<◌, Bool, true, false, List, [], ◌∷◌, ◌++◌, length, take, Option, Some, None, refl, sym, ap, ◌∙◌, subst, arith, if◌then◌else◌, slice_get, unwrap_or, mul-add, mul-one, mul-le-mul_left}
+use Rattle.std.proofs.Common.{◌≡◌, ℕ, zero, suc, ◌+◌, ◌-◌, ◌≤◌, Bool, true, false, List, [], ◌∷◌, ◌++◌, length, take, Some, None, refl, sym, ap, ◌∙◌, subst, arith, if◌then◌else◌, slice_get, unwrap_or, mul-add, mul-one, mul-le-mul_left}
 use Rattle.std.specs.Str.{bytes_eq}
 use Rattle.std.proofs.lemmas.Slice.Eq.{bytes_eq-Decides}
 use Rattle.ext_mean.specs.declared.run.Run.{Run}
 use Rattle.ext_mean.specs.declared.state.Value.{Value}
-use Rattle.ext_mean.specs.declared.state.State.{State}
 use Rattle.ext_mean.specs.declared.tree.Function.{Function}
-use Rattle.ext_mean.specs.declared.tree.Program.{Program}
-use Rattle.ext_mean.specs.MeaningValues.{nothing}
 use Rattle.ext_mean.specs.Meaning as meaning
 use Rattle.ext_mean.specs.Meaning.{mean, main_of, call_below, is_named, run_function, ended}
 use Rattle.ext_mean.specs.TypesOfItems.{function_named}
 use Rattle.ext_mean.specs.Typing as typing
 use Rattle.ext_mean.specs.Typing.{IsTyped, type_codes}
-use Rattle.ext_mean.specs.Views.{View}
-use Rattle.ext_mean.specs.Work.{World, Step, Next, Ends, Work, give}
-use Rattle.gen_code.specs.declared.code.Code.{Code}
+use Rattle.ext_mean.specs.Work.{World, Step, Next, Ends, Work}
 use Rattle.gen_code.specs.declared.code.CodeFn.{CodeFn}
 use Rattle.gen_code.specs.Codes as codes
 use Rattle.gen_code.specs.Codes.{code_of, number_below, function_code}
-use Rattle.gen_code.specs.Machine as machine
-use Rattle.gen_code.specs.Machine.{Progress, Going, Over, begin, most_turns, nowhere, function_at, size_of, steps}
+use Rattle.gen_code.specs.Machine.{Progress, Over, most_turns, nowhere, function_at, size_of, steps}
 use Rattle.gen_law.specs.Law.{CodeMeansTheSame}
 use Rattle.gen_law.proofs.Following.{Machine, Follow, steps-add, steps-over}
-use Rattle.gen_law.proofs.Calls as called
-use Rattle.gen_law.proofs.Calls.{IsCalled, Comes, Kept, backed, entering}
+use Rattle.gen_law.proofs.Calls.{IsCalled, Kept, backed, entering}
 use Rattle.gen_law.proofs.Functions as functions_follow
 use Rattle.gen_law.proofs.Functions.{HasFunction}
 use Rattle.gen_law.proofs.Named.{some-at, take-next, named-behind, named-before, IsClean, clean-at, IsCoded, coded-at, codes-length, new-name, main-plain}

@@ -1,5 +1,5 @@
 -- The machine follows `return`.
-use Rattle.std.proofs.Common.{◌≡◌, ℕ, ◌+◌, ◌*◌, ◌≤◌, Bool, true, false, List, [], ◌∷◌, ◌++◌, length, Option, Some, None, refl, sym, ap, ◌∙◌, subst, subst₂, arith, slice_set, length-append, append-nil}
+use Rattle.std.proofs.Common.{◌≡◌, ℕ, ◌+◌, ◌≤◌, List, [], ◌∷◌, ◌++◌, length, Some, sym, ap, subst, subst₂, arith, slice_set, length-append}
 use Rattle.ext_mean.specs.declared.expr.Expr.{Expr}
 use Rattle.ext_mean.specs.declared.expr.Expr.TheViews.{roll-Expr}
 use Rattle.ext_mean.specs.declared.expr.Expr.TheOpen.{Expr-F}
@@ -8,18 +8,16 @@ use Rattle.ext_mean.specs.declared.state.State.{State}
 use Rattle.ext_mean.specs.declared.state.Value.{Value}
 use Rattle.ext_mean.specs.declared.tree.Param.{Param}
 use Rattle.ext_mean.specs.MeaningValues.{nothing, value_of}
-use Rattle.ext_mean.specs.MeaningExpressions as meaning
 use Rattle.ext_mean.specs.MeaningExpressions.{evaluate, expression_form, variable}
 use Rattle.ext_mean.specs.MeaningStatements.{Course}
-use Rattle.ext_mean.specs.Work.{World, Step, Next, Ends, Work, after, ◌>>=◌, give}
+use Rattle.ext_mean.specs.Work.{Next, Work, ◌>>=◌, give}
 use Rattle.ext_mean.proofs.Equations.{evaluate-roll}
 use Rattle.gen_code.specs.declared.op.Op.{Op}
 use Rattle.gen_code.specs.declared.op.Op.TheVariants as op
 use Rattle.gen_code.specs.Codes as codes
 use Rattle.gen_code.specs.Codes.{Coder, ◌▸◌, emit, on_slot, slot_of, ExpressionCode, expression_code}
-use Rattle.gen_code.specs.Machine as machine
-use Rattle.gen_code.specs.Machine.{Progress, Going, op_at, perform, slot}
-use Rattle.gen_law.proofs.Following.{Machine, Follow, arrived, turned, bind}
+use Rattle.gen_code.specs.Machine.{Going, op_at, perform, slot}
+use Rattle.gen_law.proofs.Following.{Machine, Follow, arrived, turned}
 use Rattle.gen_law.proofs.Standing as standing
 use Rattle.gen_law.proofs.Standing.{Here, InScope, Scoped, at, config, HasAt, values}
 use Rattle.gen_law.proofs.Slots.{slot-value}

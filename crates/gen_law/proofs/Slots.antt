@@ -1,11 +1,11 @@
 -- Slots and the variables in them.
-use Rattle.std.proofs.Common.{◌≡◌, ℕ, zero, suc, ◌+◌, ◌≤◌, ◌<◌, Bool, true, false, List, [], ◌∷◌, ◌++◌, length, take, set, Option, Some, None, refl, sym, ap, ◌∙◌, subst, arith, if◌then◌else◌, slice_get, slice_set, ◌==◌, unwrap_or, add-one, length-append, append-nil, append_assoc}
+use Rattle.std.proofs.Common.{◌≡◌, ℕ, zero, suc, ◌+◌, Bool, true, false, List, [], ◌∷◌, ◌++◌, length, take, refl, sym, ap, ◌∙◌, arith, if◌then◌else◌, slice_set, ◌==◌, add-one}
 use Rattle.std.proofs.Math.Seq.{take-append_seam}
 use Rattle.std.specs.Str.{bytes_eq}
 use Rattle.ext_mean.specs.declared.state.Local.{Local}
 use Rattle.ext_mean.specs.declared.state.Value.{Value}
 use Rattle.ext_mean.specs.declared.tree.Param.{Param}
-use Rattle.ext_mean.specs.MeaningValues.{nothing, value_of, assigned, declared}
+use Rattle.ext_mean.specs.MeaningValues.{value_of, assigned, declared}
 use Rattle.gen_code.specs.Codes.{slot_of}
 use Rattle.gen_code.specs.Machine.{slot, stored}
 use Rattle.gen_law.proofs.Standing.{values, InScope}

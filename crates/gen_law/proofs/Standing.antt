@@ -1,6 +1,6 @@
 -- Where the machine stands with the state of a run: at an instruction of a function, with the values of
 -- the variables in its slots.
-use Rattle.std.proofs.Common.{◌≡◌, ℕ, zero, suc, ◌+◌, ◌*◌, ◌≤◌, Bool, true, false, List, [], ◌∷◌, ◌++◌, length, take, Option, Some, None, refl, sym, ap, ◌∙◌, subst, arith, if◌then◌else◌, nat_le, length-append, append-nil}
+use Rattle.std.proofs.Common.{◌≡◌, ℕ, ◌+◌, ◌≤◌, Bool, true, false, List, [], ◌∷◌, ◌++◌, length, refl, sym, ap, subst, arith, if◌then◌else◌, nat_le}
 use Rattle.std.proofs.lemmas.Bool.{leb-true}
 use Rattle.sp_base.specs.declared.outcomes.Trap.{Trap}
 use Rattle.ext_mean.specs.declared.run.Run.TheVariants.{Trapped, Spent}
@@ -8,14 +8,13 @@ use Rattle.ext_mean.specs.declared.state.Local.{Local}
 use Rattle.ext_mean.specs.declared.state.State.{State}
 use Rattle.ext_mean.specs.declared.state.Value.{Value}
 use Rattle.ext_mean.specs.declared.tree.Param.{Param}
-use Rattle.ext_mean.specs.Work.{World, Step, Next, Ends, Work, after, ◌>>=◌, give, charge, require}
+use Rattle.ext_mean.specs.Work.{Step, Next, Ends, Work, after, charge, require}
 use Rattle.gen_code.specs.declared.code.Code.{Code}
 use Rattle.gen_code.specs.declared.op.Op.{Op}
 use Rattle.gen_code.specs.declared.op.Op.TheVariants as op
-use Rattle.gen_code.specs.Codes.{Coder, ◌▸◌, emit}
 use Rattle.gen_code.specs.Machine as machine
 use Rattle.gen_code.specs.Machine.{Config, Frame, Progress, Going, Over, Working, Reading, once, steps, perform, op_at}
-use Rattle.gen_law.proofs.Following.{Machine, Follow, arrived, over, ended, turned, wider, bind, refunded, raised}
+use Rattle.gen_law.proofs.Following.{Machine, Follow, arrived, over, ended, turned, refunded}
 
 -- the values of variables, in their order
 abbrev pub values : List Local → List Value

@@ -1,9 +1,6 @@
 -- The machine follows every statement and block of a typed program, by the tree.
-use Rattle.std.proofs.Common.{◌≡◌, ℕ, ◌+◌, ◌*◌, ◌≤◌, Bool, true, false, List, [], ◌∷◌, ◌++◌, length, map, take, Option, Some, None, refl, sym, ap, ◌∙◌, subst, subst₂, arith}
-use Rattle.ext_mean.specs.declared.check_codes.TypeCode.{TypeCode}
+use Rattle.std.proofs.Common.{◌≡◌, ℕ, List, [], ◌∷◌, ◌++◌, length, map, Some, refl, sym, ap, subst, subst₂}
 use Rattle.ext_mean.specs.declared.expr.Expr.{Expr}
-use Rattle.ext_mean.specs.declared.state.Value.{Value}
-use Rattle.ext_mean.specs.declared.statement.Kind.{Kind}
 use Rattle.ext_mean.specs.declared.statement.Statement.{Statement}
 use Rattle.ext_mean.specs.declared.statement.Block.{Block}
 use Rattle.ext_mean.specs.declared.statement.Statement.TheViews.{roll-Statement, roll-Block}
@@ -11,13 +8,11 @@ use Rattle.ext_mean.specs.declared.statement.Statement.TheOpen.{Statement-F, Blo
 use Rattle.ext_mean.specs.declared.statement.Statement.TheFolds.{ind-Block, map-Statement, map-Block, fold-roll-Statement, fold-roll-Block}
 use Rattle.ext_mean.specs.declared.tree.Function.{Function}
 use Rattle.ext_mean.specs.declared.tree.Param.{Param}
-use Rattle.ext_mean.specs.MeaningExpressions.{evaluate}
 use Rattle.ext_mean.specs.MeaningStatements as meaning
 use Rattle.ext_mean.specs.MeaningStatements.{Course, Calls, execute, run_block, statement_form, one_by_one}
 use Rattle.ext_mean.specs.TypesOfItems.{Setting, statement_code, function_named}
 use Rattle.ext_mean.specs.Typing as typing
 use Rattle.ext_mean.specs.Typing.{Checked, Codes, checked, block_codes, inner_codes, declared_by}
-use Rattle.ext_mean.specs.Work.{World, Work}
 use Rattle.ext_mean.proofs.Equations.{execute-roll, run_block-roll}
 use Rattle.gen_code.specs.Codes as codes
 use Rattle.gen_code.specs.declared.op.Op.TheVariants as op

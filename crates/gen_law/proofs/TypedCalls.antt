@@ -1,6 +1,6 @@
 -- What typing says of a program: no item has a fault, and a call has as many arguments as the called
 -- function has parameters.
-use Rattle.std.proofs.Common.{◌≡◌, ℕ, zero, suc, ◌+◌, Bool, true, false, List, [], ◌∷◌, ◌++◌, length, Option, Some, None, refl, sym, ap, ◌∙◌, subst, if◌then◌else◌, nat_le}
+use Rattle.std.proofs.Common.{◌≡◌, ℕ, suc, ◌+◌, Bool, true, false, List, [], ◌∷◌, ◌++◌, length, Option, Some, None, refl, ap, if◌then◌else◌, nat_le}
 use Rattle.ext_mean.specs.declared.check_codes.TypeCode.{TypeCode}
 use Rattle.ext_mean.specs.declared.check_codes.TypeCode.TheVariants as code
 use Rattle.ext_mean.specs.declared.expr.Expr.{Expr}
