@@ -10,11 +10,13 @@ use Rattle.ext_mean.specs.Meaning.{mean, main_of, call_below, is_named, run_func
 use Rattle.ext_mean.specs.TypesOfItems.{function_named}
 use Rattle.ext_mean.specs.Typing as typing
 use Rattle.ext_mean.specs.Typing.{IsTyped, type_codes}
+use Rattle.ext_mean.specs.declared.tree.Program.{Program}
+use Rattle.ext_mean.specs.Views.{View}
 use Rattle.ext_mean.specs.Work.{World, Step, Next, Ends, Work}
 use Rattle.gen_code.specs.declared.code.CodeFn.{CodeFn}
 use Rattle.gen_code.specs.Codes as codes
 use Rattle.gen_code.specs.Codes.{code_of, number_below, function_code}
-use Rattle.gen_code.specs.Machine.{Progress, Over, most_turns, nowhere, function_at, size_of, steps}
+use Rattle.gen_code.specs.Machine.{Progress, Going, Over, begin, most_turns, nowhere, function_at, size_of, steps}
 use Rattle.gen_law.specs.Law.{CodeMeansTheSame}
 use Rattle.gen_law.proofs.Following.{Machine, Follow, steps-add, steps-over}
 use Rattle.gen_law.proofs.Calls.{IsCalled, Kept, backed, entering}
@@ -124,11 +126,15 @@ main-cases functions world (suc count) last clean =
     subst (λ n. steps (record { functions = all }) world (most_turns (record { functions = all }) world.budget) (entering n [] [] meaning.start) ≡ Over (ended (main_of world functions (suc count) meaning.start))) (omega arith)
     (end-cases functions world clean (entering count [] [] meaning.start) (main_of world functions (suc count) meaning.start) (main-comes functions world clean count (omega (arith, last))))
 
-pub code-means-the-same : CodeMeansTheSame
+code-ends : (program : Program) (args : List ℕ) (budget : ℕ) (view : View) → IsTyped program
+    → steps (code_of program) (record { args = args; budget = budget; view = view }) (most_turns (code_of program) budget) (Going (begin (code_of program))) ≡ Over (mean program args budget view)
 unfolding mean code_of
-code-means-the-same program args budget view typed =
+code-ends program args budget view typed =
     let functions = program.functions in
     let world : World = record { args = args; budget = budget; view = view } in
     let all : List CodeFn = codes.function_codes functions 0 functions in
     subst (λ n. steps (record { functions = all }) world (most_turns (record { functions = all }) budget) (entering (n - 1) [] [] meaning.start) ≡ Over (mean program args budget view)) (sym (codes-length functions 0 functions))
     (main-cases functions world (length functions) refl (typed-faultless program typed))
+
+pub code-means-the-same : CodeMeansTheSame
+code-means-the-same program typed = record { means = λ args budget view. code-ends program args budget view typed }
