@@ -8,15 +8,22 @@ ghost use Rattle.gen_code.specs.declared.op.Op.TheVariants as op;
 use crate::names::Callees;
 use crate::numbers::{narrow, place_behind};
 use crate::statements::{
-    write_assign, write_call, write_copy, write_let, write_put, write_return, write_set, write_set8,
+    write_assign, write_call, write_copy, write_del, write_let, write_put, write_resp, write_return,
+    write_set, write_set8,
 };
-use crate::values::{write_one, write_two, write_value};
+use crate::values::{write_one, write_value};
 use crate::variables::Variables;
 use ext_mean::{Block, Expr, Kind, Name, Statement};
 use gen_code::Op;
 use sp_base::Memory;
 use sqlite_items::Items;
 use std::alloc::Global;
+
+/// The units of a statement, before its operands.
+const UNITS_OF_STATEMENT: u32 = 1;
+
+/// The units of each test of a `while`, besides the statement's.
+const UNITS_OF_TURN: u32 = 1;
 
 /// Ends the scope of the variables from a slot on, with code that drops them, where there are any.
 fn end_scope(variables: &mut Variables, ops: &mut Items<Op>, outer: usize) -> Result<(), Memory>
@@ -52,7 +59,8 @@ pub fn write_block(
     for statement in block.items.as_slice() {
         write_statement(alloc, callees, variables, ops, statement)?;
     }
-    end_scope(variables, ops, outer)
+    end_scope(variables, ops, outer)?;
+    Ok(())
 }
 
 /// Adds the code of a statement: its unit, and then what it does. What it declares comes into scope.
@@ -72,12 +80,12 @@ fn write_statement(
     ensures declared { OnOk result (variables.new.declared ≡ variables.old.declared
         + (statement_code callees.now.functions.now callees.now.count statement.now).locals) }
 {
-    ops.push(Op::Charge(1))?;
+    ops.push(Op::Charge(UNITS_OF_STATEMENT))?;
     let scope = variables.in_scope.as_slice();
     match statement {
         Statement::Let { name, kind, value } => {
             write_let(alloc, ops, scope, value)?;
-            variables.declare(alloc, name, *kind)
+            variables.declare(alloc, name, *kind)?;
         }
         Statement::LetCall {
             name,
@@ -86,14 +94,14 @@ fn write_statement(
             args,
         } => {
             write_call(alloc, callees, ops, scope, function, args.as_slice())?;
-            variables.declare(alloc, name, *kind)
+            variables.declare(alloc, name, *kind)?;
         }
-        Statement::Assign { name, value } => write_assign(alloc, ops, scope, name, value),
+        Statement::Assign { name, value } => write_assign(alloc, ops, scope, name, value)?,
         Statement::If { test, yes, no } => {
-            write_if(alloc, callees, variables, ops, test, yes, no)
+            write_if(alloc, callees, variables, ops, test, yes, no)?
         }
         Statement::While { test, body } => {
-            write_while(alloc, callees, variables, ops, test, body)
+            write_while(alloc, callees, variables, ops, test, body)?
         }
         Statement::Get {
             table,
@@ -101,11 +109,7 @@ fn write_statement(
             some,
             yes,
             no,
-        } => {
-            write_value(alloc, ops, scope, table)?;
-            write_value(alloc, ops, scope, key)?;
-            write_get(alloc, callees, variables, ops, some, yes, no)
-        }
+        } => write_get(alloc, callees, variables, ops, (table, key), some, yes, no)?,
         Statement::Multi {
             table,
             keys,
@@ -114,26 +118,26 @@ fn write_statement(
             yes,
             no,
         } => {
-            write_value(alloc, ops, scope, table)?;
-            write_two(alloc, ops, scope, (keys, width), Op::Num(0))?;
-            write_multi(alloc, callees, variables, ops, some, yes, no)
+            let operands = (table, keys, width);
+            write_multi(alloc, callees, variables, ops, operands, some, yes, no)?
         }
         Statement::Set { name, place, value } => {
-            write_set(alloc, ops, scope, name, (place, value))
+            write_set(alloc, ops, scope, name, (place, value))?
         }
         Statement::Set8 { name, place, value } => {
-            write_set8(alloc, ops, scope, name, (place, value))
+            write_set8(alloc, ops, scope, name, (place, value))?
         }
         Statement::Copy {
             name,
             place,
             source,
-        } => write_copy(alloc, ops, scope, name, (place, source)),
-        Statement::Put { name } => write_put(ops, scope, name),
-        Statement::Del { table, key } => write_two(alloc, ops, scope, (table, key), Op::Del),
-        Statement::Resp { value } => write_one(alloc, ops, scope, value, Op::Resp),
-        Statement::Return { value } => write_return(alloc, ops, scope, value),
+        } => write_copy(alloc, ops, scope, name, (place, source))?,
+        Statement::Put { name } => write_put(ops, scope, name)?,
+        Statement::Del { table, key } => write_del(alloc, ops, scope, table, key)?,
+        Statement::Resp { value } => write_resp(alloc, ops, scope, value)?,
+        Statement::Return { value } => write_return(alloc, ops, scope, value)?,
     }
+    Ok(())
 }
 
 /// Adds the code of `if`.
@@ -156,7 +160,8 @@ fn write_if(
         + ((block_code callees.now.functions.now callees.now.count yes.now).locals
         + (block_code callees.now.functions.now callees.now.count no.now).locals)) }
 {
-    write_value(alloc, ops, variables.in_scope.as_slice(), test)?;
+    let scope = variables.in_scope.as_slice();
+    write_value(alloc, ops, scope, test)?;
     let past_first = ops.len();
     ops.push(Op::JumpFalse(0))?;
     write_block(alloc, callees, variables, ops, yes)?;
@@ -188,8 +193,9 @@ fn write_while(
         + (block_code callees.now.functions.now callees.now.count body.now).locals) }
 {
     let turn = place_behind(ops, 0)?;
-    ops.push(Op::Charge(1))?;
-    write_value(alloc, ops, variables.in_scope.as_slice(), test)?;
+    ops.push(Op::Charge(UNITS_OF_TURN))?;
+    let scope = variables.in_scope.as_slice();
+    write_value(alloc, ops, scope, test)?;
     let past_body = ops.len();
     ops.push(Op::JumpFalse(0))?;
     write_block(alloc, callees, variables, ops, body)?;
@@ -226,26 +232,30 @@ fn write_found(
     Ok(())
 }
 
-/// Adds the code of `get`, behind its operands.
+/// Adds the code of `get`.
 #[cycle(block)]
 fn write_get(
     alloc: Global,
     callees: &Callees,
     variables: &mut Variables,
     ops: &mut Items<Op>,
+    operands: (&Expr, &Expr),
     some: &Name,
     yes: &Block,
     no: &Block,
 ) -> Result<(), Memory>
-    ensures ops { OnOk result (ops.new ≡ ops.old ++ get_code some.now
-        (block_code callees.now.functions.now callees.now.count yes.now).ops
-        (block_code callees.now.functions.now callees.now.count no.now).ops
+    ensures ops { OnOk result (ops.new ≡ ops.old ++ (value_ops operands.entry.0.now ▸ (value_ops operands.entry.1.now
+        ▸ get_code some.now (block_code callees.now.functions.now callees.now.count yes.now).ops
+        (block_code callees.now.functions.now callees.now.count no.now).ops))
         variables.old.in_scope.items (length ops.old)) }
     ensures scope { OnOk result (variables.new.in_scope.items ≡ variables.old.in_scope.items) }
     ensures declared { OnOk result (variables.new.declared ≡ variables.old.declared
         + (1 + (block_code callees.now.functions.now callees.now.count yes.now).locals
         + (block_code callees.now.functions.now callees.now.count no.now).locals)) }
 {
+    let scope = variables.in_scope.as_slice();
+    write_value(alloc, ops, scope, operands.0)?;
+    write_value(alloc, ops, scope, operands.1)?;
     let read = ops.len();
     ops.push(Op::Get(0))?;
     write_found(alloc, callees, variables, ops, some, yes)?;
@@ -259,9 +269,39 @@ fn write_get(
     Ok(())
 }
 
-/// Adds the code of `multiget`, behind its operands and the place of the first key.
+/// Adds the code of `multiget`: its operands, the place of the first key, and its turns.
 #[cycle(block)]
 fn write_multi(
+    alloc: Global,
+    callees: &Callees,
+    variables: &mut Variables,
+    ops: &mut Items<Op>,
+    operands: (&Expr, &Expr, &Expr),
+    some: &Name,
+    yes: &Block,
+    no: &Block,
+) -> Result<(), Memory>
+    ensures ops { OnOk result (ops.new ≡ ops.old ++ (value_ops operands.entry.0.now ▸ (value_ops operands.entry.1.now
+        ▸ (value_ops operands.entry.2.now ▸ (emit (op.Num 0 ∷ [])
+        ▸ multi_code some.now (block_code callees.now.functions.now callees.now.count yes.now).ops
+        (block_code callees.now.functions.now callees.now.count no.now).ops))))
+        variables.old.in_scope.items (length ops.old)) }
+    ensures scope { OnOk result (variables.new.in_scope.items ≡ variables.old.in_scope.items) }
+    ensures declared { OnOk result (variables.new.declared ≡ variables.old.declared
+        + (1 + (block_code callees.now.functions.now callees.now.count yes.now).locals
+        + (block_code callees.now.functions.now callees.now.count no.now).locals)) }
+{
+    let scope = variables.in_scope.as_slice();
+    write_value(alloc, ops, scope, operands.0)?;
+    write_value(alloc, ops, scope, operands.1)?;
+    write_one(alloc, ops, scope, operands.2, Op::Num(0))?;
+    write_turns(alloc, callees, variables, ops, some, yes, no)?;
+    Ok(())
+}
+
+/// Adds the turns of a `multiget`, one for each key.
+#[cycle(block)]
+fn write_turns(
     alloc: Global,
     callees: &Callees,
     variables: &mut Variables,
@@ -279,20 +319,20 @@ fn write_multi(
         + (1 + (block_code callees.now.functions.now callees.now.count yes.now).locals
         + (block_code callees.now.functions.now callees.now.count no.now).locals)) }
 {
-    let turn = place_behind(ops, 0)?;
+    let next_key = place_behind(ops, 0)?;
     let read = ops.len();
     ops.push(Op::Multi(0))?;
     let past_first = ops.len();
     ops.push(Op::JumpFalse(0))?;
     write_found(alloc, callees, variables, ops, some, yes)?;
-    ops.push(Op::Jump(turn))?;
+    ops.push(Op::Jump(next_key))?;
     let at_none = place_behind(ops, 0)?;
     ops.set(past_first, Op::JumpFalse(at_none));
     let slot = variables.next_slot()?;
     ops.push(Op::Store(slot))?;
     ops.push(Op::Drop(slot))?;
     write_block(alloc, callees, variables, ops, no)?;
-    ops.push(Op::Jump(turn))?;
+    ops.push(Op::Jump(next_key))?;
     let end = place_behind(ops, 0)?;
     ops.set(read, Op::Multi(end));
     Ok(())

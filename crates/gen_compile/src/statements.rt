@@ -114,6 +114,33 @@ pub fn write_put(ops: &mut Items<Op>, scope: &[Param], name: &Name) -> Result<()
     Ok(())
 }
 
+/// `del(table, key);`
+pub fn write_del(
+    alloc: Global,
+    ops: &mut Items<Op>,
+    scope: &[Param],
+    table: &Expr,
+    key: &Expr,
+) -> Result<(), Memory>
+    ensures { OnOk result (ops.new ≡ ops.old
+        ++ (value_ops table.now ▸ (value_ops key.now ▸ emit (op.Del ∷ []))) scope.now (length ops.old)) }
+{
+    write_two(alloc, ops, scope, (table, key), Op::Del)
+}
+
+/// `resp(value);`
+pub fn write_resp(
+    alloc: Global,
+    ops: &mut Items<Op>,
+    scope: &[Param],
+    value: &Expr,
+) -> Result<(), Memory>
+    ensures { OnOk result (ops.new ≡ ops.old
+        ++ (value_ops value.now ▸ emit (op.Resp ∷ [])) scope.now (length ops.old)) }
+{
+    write_one(alloc, ops, scope, value, Op::Resp)
+}
+
 /// `return value;`
 pub fn write_return(
     alloc: Global,
