@@ -7,11 +7,13 @@ use Rattle.std.proofs.lemmas.Grind.{common_steps}
 use Rattle.std.proofs.lemmas.List.{append-nil, length-take, take-append-le}
 use Rattle.ext_mean.specs.declared.statement.Statement.{Statement}
 use Rattle.ext_mean.specs.declared.statement.Block.{Block}
+use Rattle.ext_mean.specs.declared.statement.Statement.TheOpen.{Statement-F}
 use Rattle.ext_mean.specs.declared.tree.Function.{Function}
 use Rattle.ext_mean.specs.declared.tree.Param.{Param}
+use Rattle.ext_mean.specs.Typing.{declared_by}
 use Rattle.gen_code.specs.declared.op.Op.{Op}
 use Rattle.gen_code.specs.declared.op.Op.TheVariants as op
-use Rattle.gen_code.specs.Codes.{BlockCode, StatementCode, all_declared, all_locals, block_code, block_form, dropped, in_order, statement_code}
+use Rattle.gen_code.specs.Codes.{BlockCode, StatementCode, all_declared, all_locals, block_code, block_form, dropped, emit, in_order, statement_code, statement_form, statement_ops}
 use Rattle.gen_compile.proofs.CodeForms.{block-items}
 use Rattle.gen_compile.proofs.KeptPlaces.{next-piece}
 
@@ -138,3 +140,27 @@ block-ended functions count block items scope now was is ended outer same outer-
 pub outer-left : (scope now more ended : List Param) (outer : ℕ) → outer ≡ length scope → now ≡ scope ++ more → ended ≡ take outer now → ended ≡ scope
 outer-left scope now more ended outer is now-is ends =
     ends ∙ ap (λ (m : ℕ). take m now) is ∙ ap (λ (l : List Param). take (length scope) l) now-is ∙ take-append_seam scope more
+
+-- a statement's unit, and then what it does
+pub charged : (functions : List Function) (count : ℕ) (statement : Statement) (form : Statement-F StatementCode BlockCode) (scope inner : List Param) (was unit is : List Op)
+    → statement_code functions count statement ≡ statement_form functions count form → inner ≡ scope
+    → unit ≡ was ++ op.Charge 1 ∷ [] → is ≡ unit ++ statement_ops functions count form inner (length unit)
+    → is ≡ was ++ (statement_code functions count statement).ops scope (length was)
+charged functions count statement form scope inner was unit is coded same pays goes =
+    next-piece (emit (op.Charge 1 ∷ [])) (statement_ops functions count form) scope was unit is pays
+    (goes ∙ ap (λ (s : List Param). unit ++ statement_ops functions count form s (length unit)) same)
+    ∙ ap (λ (code : StatementCode). was ++ code.ops scope (length was)) (sym coded)
+
+-- a statement that declares nothing
+pub declares-none : (functions : List Function) (count : ℕ) (statement : Statement) (form : Statement-F StatementCode BlockCode) (was is : List Param)
+    → statement_code functions count statement ≡ statement_form functions count form → declared_by form ≡ []
+    → is ≡ was → is ≡ was ++ (statement_code functions count statement).declares
+declares-none functions count statement form was is coded none same =
+    same ∙ sym (append-nil was) ∙ ap (λ (l : List Param). was ++ l) (sym (ap (λ (code : StatementCode). code.declares) coded ∙ none))
+
+-- a statement that declares a variable
+pub declares-one : (functions : List Function) (count : ℕ) (statement : Statement) (form : Statement-F StatementCode BlockCode) (variable : Param) (was is : List Param)
+    → statement_code functions count statement ≡ statement_form functions count form → declared_by form ≡ variable ∷ []
+    → is ≡ was ++ variable ∷ [] → is ≡ was ++ (statement_code functions count statement).declares
+declares-one functions count statement form variable was is coded one goes =
+    goes ∙ ap (λ (l : List Param). was ++ l) (sym (ap (λ (code : StatementCode). code.declares) coded ∙ one))

@@ -18,6 +18,15 @@ next-piece first next scope o0 o1 o2 one two =
     two ∙ ap (λ (l : List Op). l ++ next scope (length o1)) one ∙ ap (λ (m : ℕ). (o0 ++ first scope (length o0)) ++ next scope m) n in
     e ∙ append_assoc o0 (first scope (length o0)) (next scope (length o0 + length (first scope (length o0))))
 
+-- pieces one behind the other, however they are bracketed
+pub then-assoc : (first next last : Coder) (scope : List Param) (base : ℕ) → ((first ▸ next) ▸ last) scope base ≡ (first ▸ (next ▸ last)) scope base
+then-assoc first next last scope base =
+    let one = first scope base in
+    let two = next scope (base + length one) in
+    let n : length (one ++ two) ≡ length one + length two = length-append one two in
+    let e : base + length (one ++ two) ≡ base + length one + length two = omega (arith, n) in
+    ap (λ (m : ℕ). (one ++ two) ++ last scope m) e ∙ append_assoc one two (last scope (base + length one + length two))
+
 -- one instruction more
 longer : (o0 o1 : List Op) (one : Op) → o1 ≡ o0 ++ one ∷ [] → length o1 ≡ length o0 + 1
 longer o0 o1 one e = ap length e ∙ length-append o0 (one ∷ [])
@@ -175,31 +184,41 @@ while-written test body scope o0 o1 o2 o3 o4 o5 o6 turn place behind t e1 e2 p e
     whole ∙ ap (λ (m : ℕ). o0 ++ (op.Charge 1 ∷ (one ++ (op.JumpFalse m ∷ (two ++ (op.Jump turn ∷ [])))))) a
     ∙ ap (λ (m : ℕ). o0 ++ (op.Charge 1 ∷ (one ++ (op.JumpFalse (length o0 + 1 + length one + 1 + length two + 1) ∷ (two ++ (op.Jump m ∷ [])))))) c
 
-pub multi-written : (name : List ℕ) (found none_block : Coder) (scope : List Param) (o0 o1 o2 o3 o4 o5 o6 o7 o8 o9 o10 : List Op) (turn place kept at slot behind : ℕ)
+-- a turn for each key
+abbrev turns_code : Coder → Coder → Coder
+turns_code first second scope base =
+    let one = first scope (base + 2) in
+    let at = base + 2 + length one + 1 in
+    let two = second scope (at + 2) in
+    op.Multi (at + 2 + length two + 1) ∷ op.JumpFalse at ∷ one
+    ++ (op.Jump base ∷ op.Store (length scope) ∷ op.Drop (length scope) ∷ two
+    ++ op.Jump base ∷ [])
+
+turns-written : (first second : Coder) (scope : List Param) (o0 o1 o2 o3 o4 o5 o6 o7 o8 o9 o10 : List Op) (turn place kept at slot behind : ℕ)
     → turn ≡ length o0 + 0
     → place ≡ length o0 → o1 ≡ o0 ++ op.Multi 0 ∷ []
     → kept ≡ length o1 → o2 ≡ o1 ++ op.JumpFalse 0 ∷ []
-    → o3 ≡ o2 ++ found_code name found scope (length o2)
+    → o3 ≡ o2 ++ first scope (length o2)
     → o4 ≡ o3 ++ op.Jump turn ∷ []
     → at ≡ length o4 + 0 → o5 ≡ set o4 kept (op.JumpFalse at)
     → slot ≡ length scope → o6 ≡ o5 ++ op.Store slot ∷ [] → o7 ≡ o6 ++ op.Drop slot ∷ []
-    → o8 ≡ o7 ++ none_block scope (length o7)
+    → o8 ≡ o7 ++ second scope (length o7)
     → o9 ≡ o8 ++ op.Jump turn ∷ []
     → behind ≡ length o9 + 0 → o10 ≡ set o9 place (op.Multi behind)
-    → o10 ≡ o0 ++ multi_code name found none_block scope (length o0)
-multi-written name found none_block scope o0 o1 o2 o3 o4 o5 o6 o7 o8 o9 o10 turn place kept at slot behind t p e1 k e2 e3 e4 f e5 s e6 e7 e8 e9 b e10 =
+    → o10 ≡ o0 ++ turns_code first second scope (length o0)
+turns-written first second scope o0 o1 o2 o3 o4 o5 o6 o7 o8 o9 o10 turn place kept at slot behind t p e1 k e2 e3 e4 f e5 s e6 e7 e8 e9 b e10 =
     let n1 : length o1 ≡ length o0 + 1 = longer o0 o1 (op.Multi 0) e1 in
     let n2 : length o2 ≡ length o0 + 2 = omega (arith, n1, longer o1 o2 (op.JumpFalse 0) e2) in
-    let one = found_code name found scope (length o0 + 2) in
-    let g3 : o3 ≡ o2 ++ one = e3 ∙ ap (λ (m : ℕ). o2 ++ found_code name found scope m) n2 in
+    let one = first scope (length o0 + 2) in
+    let g3 : o3 ≡ o2 ++ one = e3 ∙ ap (λ (m : ℕ). o2 ++ first scope m) n2 in
     let n4 : length o4 ≡ length o0 + 2 + length one + 1 = omega (arith, n2, lengthened o2 o3 one g3, longer o3 o4 (op.Jump turn) e4) in
     let w4 : o4 ≡ o2 ++ (one ++ (op.Jump turn ∷ [])) = rw (e4, g3) (simp append_assoc refl) in
     let g5 : o5 ≡ o1 ++ (op.JumpFalse at ∷ (one ++ (op.Jump turn ∷ []))) =
     e5 ∙ filled o1 o2 o4 kept (op.JumpFalse 0) (op.JumpFalse at) (one ++ (op.Jump turn ∷ [])) k e2 w4 in
     let n5 : length o5 ≡ length o0 + 2 + length one + 1 = ap length e5 ∙ length-set o4 kept (op.JumpFalse at) ∙ n4 in
     let n7 : length o7 ≡ length o0 + 2 + length one + 1 + 2 = omega (arith, n5, longer o5 o6 (op.Store slot) e6, longer o6 o7 (op.Drop slot) e7) in
-    let two = none_block scope (length o0 + 2 + length one + 1 + 2) in
-    let g8 : o8 ≡ o7 ++ two = e8 ∙ ap (λ (m : ℕ). o7 ++ none_block scope m) n7 in
+    let two = second scope (length o0 + 2 + length one + 1 + 2) in
+    let g8 : o8 ≡ o7 ++ two = e8 ∙ ap (λ (m : ℕ). o7 ++ second scope m) n7 in
     let n9 : length o9 ≡ length o0 + 2 + length one + 1 + 2 + length two + 1 = omega (arith, n7, lengthened o7 o8 two g8, longer o8 o9 (op.Jump turn) e9) in
     let rest : ℕ → ℕ → List Op = λ goal number. op.JumpFalse goal ∷ (one ++ (op.Jump turn ∷ op.Store number ∷ op.Drop number ∷ (two ++ (op.Jump turn ∷ [])))) in
     let w9 : o9 ≡ o1 ++ rest at slot = rw (e9, g8, e7, e6, g5) (simp append_assoc refl) in
@@ -212,3 +231,18 @@ multi-written name found none_block scope o0 o1 o2 o3 o4 o5 o6 o7 o8 o9 o10 turn
     g10 ∙ ap (λ (m : ℕ). o0 ++ (op.Multi m ∷ rest at slot)) a ∙ ap (λ (m : ℕ). o0 ++ (op.Multi last ∷ rest m slot)) c
     ∙ ap (λ (m : ℕ). o0 ++ (op.Multi last ∷ rest goal m)) s
     ∙ ap (λ (m : ℕ). o0 ++ (op.Multi last ∷ op.JumpFalse goal ∷ (one ++ (op.Jump m ∷ op.Store (length scope) ∷ op.Drop (length scope) ∷ (two ++ (op.Jump m ∷ [])))))) d
+
+pub multi-written : (name : List ℕ) (found none_block : Coder) (scope : List Param) (o0 o1 o2 o3 o4 o5 o6 o7 o8 o9 o10 : List Op) (turn place kept at slot behind : ℕ)
+    → turn ≡ length o0 + 0
+    → place ≡ length o0 → o1 ≡ o0 ++ op.Multi 0 ∷ []
+    → kept ≡ length o1 → o2 ≡ o1 ++ op.JumpFalse 0 ∷ []
+    → o3 ≡ o2 ++ found_code name found scope (length o2)
+    → o4 ≡ o3 ++ op.Jump turn ∷ []
+    → at ≡ length o4 + 0 → o5 ≡ set o4 kept (op.JumpFalse at)
+    → slot ≡ length scope → o6 ≡ o5 ++ op.Store slot ∷ [] → o7 ≡ o6 ++ op.Drop slot ∷ []
+    → o8 ≡ o7 ++ none_block scope (length o7)
+    → o9 ≡ o8 ++ op.Jump turn ∷ []
+    → behind ≡ length o9 + 0 → o10 ≡ set o9 place (op.Multi behind)
+    → o10 ≡ o0 ++ multi_code name found none_block scope (length o0)
+multi-written name found none_block scope o0 o1 o2 o3 o4 o5 o6 o7 o8 o9 o10 turn place kept at slot behind =
+    turns-written (found_code name found) none_block scope o0 o1 o2 o3 o4 o5 o6 o7 o8 o9 o10 turn place kept at slot behind

@@ -20,7 +20,7 @@ use Rattle.ext_mean.specs.declared.tree.Program.{Program}
 use Rattle.gen_code.specs.declared.code.CodeFn.{CodeFn}
 use Rattle.gen_code.specs.declared.op.Op.{Op}
 use Rattle.gen_code.specs.declared.op.Op.TheVariants as op
-use Rattle.gen_code.specs.Codes.{◌▸◌, BlockCode, Coder, ExpressionCode, StatementCode, all_declared, all_values, binary_code, block_code, block_form, code_of, dropped, emit, equality, expression_code, expression_form, function_code, function_codes, in_order, made, number_below, on_next, on_slot, operator_kind, operator_ops, slot_of, statement_code, statement_form, statement_ops, value_ops}
+use Rattle.gen_code.specs.Codes.{◌▸◌, BlockCode, Coder, ExpressionCode, StatementCode, all_declared, all_values, binary_code, block_code, block_form, code_of, dropped, emit, equality, expression_code, expression_form, function_code, function_codes, get_code, in_order, made, multi_code, number_below, on_next, on_slot, operator_kind, operator_ops, slot_of, statement_code, statement_form, statement_ops, value_ops}
 use Rattle.gen_code.specs.Sound.{IsSound, IsSoundFn, Lands, is_charge, jump_of}
 use Rattle.gen_compile.proofs.CodeForms.{value-roll, statement-roll}
 use Rattle.gen_compile.proofs.Jumps.{IfJump, IsPiece, Jumps, Straight, Within, charge-front, jumps-append, jumps-map, straight}
@@ -93,26 +93,35 @@ binary-keeps operator.Remainder left right one two = both-sides operator.Remaind
 abbrev ExpressionKeeps : Expr → Type 0
 ExpressionKeeps expression = ValueKeeps (expression_code expression)
 
+-- operands, and an instruction for their values
+one-operand : (a : Expr) → ExpressionKeeps a → (one : Op) → jump_of one ≡ None → Keeps (value_ops a ▸ emit (one ∷ []))
+one-operand a first one h = then-keeps (value_ops a) (emit (one ∷ [])) first.ops (one-keeps one h)
+
+two-operands : (a b : Expr) → ExpressionKeeps a → ExpressionKeeps b → (one : Op) → jump_of one ≡ None → Keeps (value_ops a ▸ (value_ops b ▸ emit (one ∷ [])))
+two-operands a b first second one h = then-keeps (value_ops a) (value_ops b ▸ emit (one ∷ [])) first.ops (one-operand b second one h)
+
+three-operands : (a b d : Expr) → ExpressionKeeps a → ExpressionKeeps b → ExpressionKeeps d → (one : Op) → jump_of one ≡ None → Keeps (value_ops a ▸ (value_ops b ▸ (value_ops d ▸ emit (one ∷ []))))
+three-operands a b d first second third one h =
+    then-keeps (value_ops a) (value_ops b ▸ (value_ops d ▸ emit (one ∷ []))) first.ops (two-operands b d second third one h)
+
 value-form : (form : Expr-F ((e : Expr) × ExpressionKeeps e)) → ValueKeeps (expression_form (map-Expr Expr ExpressionCode expression_code (map-Expr _ Expr (λ e. e.0) form)))
-value-form (Expr-F.Number number) = made-keeps kind.Int _ (one-keeps (op.Num number) refl)
-value-form (Expr-F.Str bytes) = made-keeps kind.Slice _ (one-keeps (op.Str bytes) refl)
-value-form (Expr-F.Truth truth) = made-keeps kind.Bool _ (one-keeps (op.Truth truth) refl)
+value-form (Expr-F.Number number) = made-keeps kind.Int (emit (op.Num number ∷ [])) (one-keeps (op.Num number) refl)
+value-form (Expr-F.Str bytes) = made-keeps kind.Slice (emit (op.Str bytes ∷ [])) (one-keeps (op.Str bytes) refl)
+value-form (Expr-F.Truth truth) = made-keeps kind.Bool (emit (op.Truth truth ∷ [])) (one-keeps (op.Truth truth) refl)
 value-form (Expr-F.Var name) = record {
   ops = slot-keeps (λ n. op.Load n) (λ n. refl) name;
   moved = slot-keeps (λ n. op.Move n) (λ n. refl) name;
 }
-value-form Expr-F.Args = made-keeps kind.Slice _ (one-keeps op.Args refl)
-value-form (Expr-F.Len bytes) = made-keeps kind.Int _ (then-keeps _ _ bytes.1.ops (one-keeps op.Len refl))
-value-form (Expr-F.View name) = made-keeps kind.Slice _ (slot-keeps (λ n. op.View n) (λ n. refl) name)
-value-form (Expr-F.Temp size) = made-keeps kind.Temp _ (then-keeps _ _ size.1.ops (one-keeps op.Temp refl))
-value-form (Expr-F.Byte bytes place) = made-keeps kind.Int _ (then-keeps _ _ bytes.1.ops (then-keeps _ _ place.1.ops (one-keeps op.Byte refl)))
-value-form (Expr-F.Word bytes place) = made-keeps kind.Int _ (then-keeps _ _ bytes.1.ops (then-keeps _ _ place.1.ops (one-keeps op.Word refl)))
-value-form (Expr-F.Sub bytes from count) =
-    made-keeps kind.Slice _ (then-keeps _ _ bytes.1.ops (then-keeps _ _ from.1.ops (then-keeps _ _ count.1.ops (one-keeps op.Sub refl))))
-value-form (Expr-F.Alloc table key size) =
-    made-keeps kind.Buf _ (then-keeps _ _ table.1.ops (then-keeps _ _ key.1.ops (then-keeps _ _ size.1.ops (one-keeps op.Alloc refl))))
-value-form (Expr-F.Not test) = made-keeps kind.Bool _ (then-keeps _ _ test.1.ops (one-keeps op.Not refl))
-value-form (Expr-F.Bin which left right) = made-keeps (operator_kind which) _ (binary-keeps which _ _ left.1.ops right.1.ops)
+value-form Expr-F.Args = made-keeps kind.Slice (emit (op.Args ∷ [])) (one-keeps op.Args refl)
+value-form (Expr-F.Len bytes) = made-keeps kind.Int (value_ops bytes.0 ▸ emit (op.Len ∷ [])) (one-operand bytes.0 bytes.1 op.Len refl)
+value-form (Expr-F.View name) = made-keeps kind.Slice (on_slot (λ n. op.View n) name) (slot-keeps (λ n. op.View n) (λ n. refl) name)
+value-form (Expr-F.Temp size) = made-keeps kind.Temp (value_ops size.0 ▸ emit (op.Temp ∷ [])) (one-operand size.0 size.1 op.Temp refl)
+value-form (Expr-F.Byte bytes place) = made-keeps kind.Int (value_ops bytes.0 ▸ (value_ops place.0 ▸ emit (op.Byte ∷ []))) (two-operands bytes.0 place.0 bytes.1 place.1 op.Byte refl)
+value-form (Expr-F.Word bytes place) = made-keeps kind.Int (value_ops bytes.0 ▸ (value_ops place.0 ▸ emit (op.Word ∷ []))) (two-operands bytes.0 place.0 bytes.1 place.1 op.Word refl)
+value-form (Expr-F.Sub bytes from count) = made-keeps kind.Slice (value_ops bytes.0 ▸ (value_ops from.0 ▸ (value_ops count.0 ▸ emit (op.Sub ∷ [])))) (three-operands bytes.0 from.0 count.0 bytes.1 from.1 count.1 op.Sub refl)
+value-form (Expr-F.Alloc table key size) = made-keeps kind.Buf (value_ops table.0 ▸ (value_ops key.0 ▸ (value_ops size.0 ▸ emit (op.Alloc ∷ [])))) (three-operands table.0 key.0 size.0 table.1 key.1 size.1 op.Alloc refl)
+value-form (Expr-F.Not test) = made-keeps kind.Bool (value_ops test.0 ▸ emit (op.Not ∷ [])) (one-operand test.0 test.1 op.Not refl)
+value-form (Expr-F.Bin which left right) = made-keeps (operator_kind which) (binary_code which (expression_code left.0) (expression_code right.0)) (binary-keeps which (expression_code left.0) (expression_code right.0) left.1.ops right.1.ops)
 
 expression-keeps : (expression : Expr) → ExpressionKeeps expression
 expression-keeps = ind-Expr ExpressionKeeps (λ x y is.
@@ -125,7 +134,7 @@ value-keeps expression = (expression-keeps expression).ops
 
 all-keep : (expressions : List Expr) → Keeps (all_values expressions)
 all-keep [] = emit-keeps [] tt
-all-keep (first ∷ rest) = then-keeps _ _ (value-keeps first) (all-keep rest)
+all-keep (first ∷ rest) = then-keeps (value_ops first) (all_values rest) (value-keeps first) (all-keep rest)
 
 module _ (functions : List Function) (count : ℕ) where
   abbrev StatementKeeps : Statement → Type 0
@@ -144,33 +153,42 @@ module _ (functions : List Function) (count : ℕ) where
   coded form = map-Statement Statement Block StatementCode BlockCode (statement_code functions count) (block_code functions count) (plain form)
 
   statement-form : (form : Inner) → Keeps (statement_ops functions count (coded form))
-  statement-form (Statement-F.Let name type expression) = then-keeps _ _ (value-keeps expression) (next-keeps (λ n. op.Store n) (λ n. refl))
+  statement-form (Statement-F.Let name type expression) = then-keeps (value_ops expression) (on_next (λ n. op.Store n)) (value-keeps expression) (next-keeps (λ n. op.Store n) (λ n. refl))
   statement-form (Statement-F.LetCall name type function args) =
-      then-keeps _ _ (all-keep args) (then-keeps _ _ (one-keeps (op.Call (number_below functions count function)) refl) (next-keeps (λ n. op.Store n) (λ n. refl)))
-  statement-form (Statement-F.Assign name expression) = then-keeps _ _ (value-keeps expression) (slot-keeps (λ n. op.Store n) (λ n. refl) name)
+      let call = emit (op.Call (number_below functions count function) ∷ []) in
+      then-keeps (all_values args) (call ▸ on_next (λ n. op.Store n)) (all-keep args)
+      (then-keeps call (on_next (λ n. op.Store n)) (one-keeps (op.Call (number_below functions count function)) refl) (next-keeps (λ n. op.Store n) (λ n. refl)))
+  statement-form (Statement-F.Assign name expression) = then-keeps (value_ops expression) (on_slot (λ n. op.Store n) name) (value-keeps expression) (slot-keeps (λ n. op.Store n) (λ n. refl) name)
   statement-form (Statement-F.If test one other) = if-keeps (value_ops test) (block_code functions count one.0).ops (block_code functions count other.0).ops (value-keeps test) one.1 other.1
   statement-form (Statement-F.While test body) = while-keeps (value_ops test) (block_code functions count body.0).ops (value-keeps test) body.1
   statement-form (Statement-F.Get table key name one other) =
-      then-keeps _ _ (value-keeps table) (then-keeps _ _ (value-keeps key) (get-keeps name (block_code functions count one.0).ops (block_code functions count other.0).ops one.1 other.1))
+      let arms = get_code name (block_code functions count one.0).ops (block_code functions count other.0).ops in
+      then-keeps (value_ops table) (value_ops key ▸ arms) (value-keeps table) (then-keeps (value_ops key) arms (value-keeps key)
+      (get-keeps name (block_code functions count one.0).ops (block_code functions count other.0).ops one.1 other.1))
   statement-form (Statement-F.Multi table keys width name one other) =
-      then-keeps _ _ (value-keeps table) (then-keeps _ _ (value-keeps keys) (then-keeps _ _ (value-keeps width)
-      (then-keeps _ _ (one-keeps (op.Num 0) refl) (multi-keeps name (block_code functions count one.0).ops (block_code functions count other.0).ops one.1 other.1))))
+      let turns = multi_code name (block_code functions count one.0).ops (block_code functions count other.0).ops in
+      let first_key = emit (op.Num 0 ∷ []) in
+      then-keeps (value_ops table) (value_ops keys ▸ (value_ops width ▸ (first_key ▸ turns))) (value-keeps table)
+      (then-keeps (value_ops keys) (value_ops width ▸ (first_key ▸ turns)) (value-keeps keys)
+      (then-keeps (value_ops width) (first_key ▸ turns) (value-keeps width)
+      (then-keeps first_key turns (one-keeps (op.Num 0) refl)
+      (multi-keeps name (block_code functions count one.0).ops (block_code functions count other.0).ops one.1 other.1))))
   statement-form (Statement-F.Set name place expression) =
-      then-keeps _ _ (value-keeps place) (then-keeps _ _ (value-keeps expression) (slot-keeps (λ n. op.Set n) (λ n. refl) name))
+      then-keeps (value_ops place) (value_ops expression ▸ on_slot (λ n. op.Set n) name) (value-keeps place) (then-keeps (value_ops expression) (on_slot (λ n. op.Set n) name) (value-keeps expression) (slot-keeps (λ n. op.Set n) (λ n. refl) name))
   statement-form (Statement-F.Set8 name place expression) =
-      then-keeps _ _ (value-keeps place) (then-keeps _ _ (value-keeps expression) (slot-keeps (λ n. op.Set8 n) (λ n. refl) name))
+      then-keeps (value_ops place) (value_ops expression ▸ on_slot (λ n. op.Set8 n) name) (value-keeps place) (then-keeps (value_ops expression) (on_slot (λ n. op.Set8 n) name) (value-keeps expression) (slot-keeps (λ n. op.Set8 n) (λ n. refl) name))
   statement-form (Statement-F.Copy name place source) =
-      then-keeps _ _ (value-keeps place) (then-keeps _ _ (value-keeps source) (slot-keeps (λ n. op.Copy n) (λ n. refl) name))
+      then-keeps (value_ops place) (value_ops source ▸ on_slot (λ n. op.Copy n) name) (value-keeps place) (then-keeps (value_ops source) (on_slot (λ n. op.Copy n) name) (value-keeps source) (slot-keeps (λ n. op.Copy n) (λ n. refl) name))
   statement-form (Statement-F.Put name) = slot-keeps (λ n. op.Put n) (λ n. refl) name
-  statement-form (Statement-F.Del table key) = then-keeps _ _ (value-keeps table) (then-keeps _ _ (value-keeps key) (one-keeps op.Del refl))
-  statement-form (Statement-F.Resp expression) = then-keeps _ _ (value-keeps expression) (one-keeps op.Resp refl)
-  statement-form (Statement-F.Return expression) = then-keeps _ _ (expression-keeps expression).moved (one-keeps op.Return refl)
+  statement-form (Statement-F.Del table key) = two-operands table key (expression-keeps table) (expression-keeps key) op.Del refl
+  statement-form (Statement-F.Resp expression) = one-operand expression (expression-keeps expression) op.Resp refl
+  statement-form (Statement-F.Return expression) = then-keeps (expression_code expression).moved (emit (op.Return ∷ [])) (expression-keeps expression).moved (one-keeps op.Return refl)
 
   statement-case : (x : Statement-F Statement Block) (y : Inner) → plain y ≡ x → StatementKeeps (roll-Statement x)
   statement-case x y is =
       subst (λ z. StatementKeeps (roll-Statement z)) is
       (subst (λ (code : StatementCode). Keeps code.ops) (sym (statement-roll functions count (plain y)))
-      (then-keeps _ _ (one-keeps (op.Charge 1) refl) (statement-form y)))
+      (then-keeps (emit (op.Charge 1 ∷ [])) (statement_ops functions count (coded y)) (one-keeps (op.Charge 1) refl) (statement-form y)))
 
   abbrev InnerBlock : Type 0
   InnerBlock = Block-F ((s : Statement) × StatementKeeps s) ((b : Block) × BlockKeeps b)
@@ -197,7 +215,7 @@ module _ (functions : List Function) (count : ℕ) where
   block-case x y is =
       subst (λ z. BlockKeeps (roll-Block z)) is
       (subst (λ (code : BlockCode). Keeps code.ops) (sym (block-roll (plain-block y)))
-      (then-keeps _ _ (items-keep y.items) (dropped-keep (all_declared (map (statement_code functions count) (map (λ e. e.0) y.items))))))
+      (then-keeps (in_order (map (statement_code functions count) (map (λ e. e.0) y.items))) (dropped (all_declared (map (statement_code functions count) (map (λ e. e.0) y.items)))) (items-keep y.items) (dropped-keep (all_declared (map (statement_code functions count) (map (λ e. e.0) y.items))))))
 
   pub block-keeps : (block : Block) → BlockKeeps block
   block-keeps = ind-Block StatementKeeps BlockKeeps statement-case block-case

@@ -55,7 +55,7 @@ pub fn write_block(
     ensures declared { OnOk result (variables.new.declared ≡ variables.old.declared
         + (block_code callees.now.functions.now callees.now.count block.now).locals) }
 {
-    let outer = variables.in_scope.len();
+    let outer = variables.in_scope.as_slice().len();
     for statement in block.items.as_slice() {
         write_statement(alloc, callees, variables, ops, statement)?;
     }

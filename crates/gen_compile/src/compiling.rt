@@ -1,7 +1,10 @@
 //! A program, function by function.
 
 ghost use Rattle.std.specs.Prelude.{◌≡◌, length, IfOk};
+ghost use Rattle.ext_mean.specs.Typing.{IsTyped};
 ghost use Rattle.gen_code.specs.Codes.{code_of, function_code, function_codes};
+ghost use Rattle.gen_code.specs.Does.{Does};
+ghost use Rattle.gen_code.specs.Sound.{IsSound};
 
 use crate::blocks::write_block;
 use crate::names::Callees;
@@ -63,9 +66,22 @@ fn compile_functions(alloc: Global, functions: &[Function]) -> Result<Items<Code
 
 /// The code of a program.
 #[tactic(auto, unfolding(gen_code::specs::Codes::code_of))]
-pub fn compile(alloc: Global, program: &Program) -> Result<Code, Memory>
+fn compiled(alloc: Global, program: &Program) -> Result<Code, Memory>
     ensures { IfOk result (λ code. code ≡ code_of program.now) }
 {
     let functions = compile_functions(alloc, program.functions.as_slice())?;
     Ok(Code { functions })
+}
+
+/// The code of a program, typed or not, in one pass over its tree. `Memory` comes for want of memory, and
+/// where a number in an instruction would pass its width, which no program has that a text within its
+/// limits spells.
+pub fn compile(alloc: Global, program: &Program) -> Result<Code, Memory>
+    ensures code { IfOk result (λ code. code ≡ code_of program.now) }
+    // Its jumps stay inside their functions, and no loop goes on without a charge.
+    ensures sound { IfOk result (λ code. IsSound code) }
+    // With any arguments and budget and on any view it ends with the meaning of the program.
+    ensures does { IsTyped program.now → IfOk result (λ code. Does code program.now) }
+{
+    compiled(alloc, program)
 }

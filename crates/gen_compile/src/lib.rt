@@ -4,6 +4,7 @@
 
 mod blocks;
 mod compiling;
+mod laws;
 mod names;
 mod numbers;
 mod statements;
@@ -11,3 +12,4 @@ mod values;
 mod variables;
 
 pub use compiling::compile;
+pub use laws::code_is_sound;

@@ -25,7 +25,10 @@ abbrev pub decreases-write_get : goal.decreases-write_get
 decreases-write_get l = 8 * max (size-Block l.yes.now) (size-Block l.no.now) + 2
 
 abbrev pub decreases-write_multi : goal.decreases-write_multi
-decreases-write_multi l = 8 * max (size-Block l.yes.now) (size-Block l.no.now) + 2
+decreases-write_multi l = 8 * max (size-Block l.yes.now) (size-Block l.no.now) + 3
+
+abbrev pub decreases-write_turns : goal.decreases-write_turns
+decreases-write_turns l = 8 * max (size-Block l.yes.now) (size-Block l.no.now) + 2
 
 abbrev pub invariant-write_block-loop-statement : goal.invariant-write_block-loop-statement
 invariant-write_block-loop-statement l = record {
