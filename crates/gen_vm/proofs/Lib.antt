@@ -1,0 +1,4 @@
+pub mod DepthLemmas
+pub mod FindingLemmas
+pub mod StackLemmas
+pub mod GoingLemmas
