@@ -13,14 +13,17 @@ module _ (code : Code) (world : World) where
   steps-over (suc count) run = steps-over count run
 
   pub steps-add : (first more : ℕ) (progress : Progress) → steps code world (first + more) progress ≡ steps code world more (steps code world first progress)
-  steps-add zero more progress = ap (λ (n : ℕ). steps code world n progress) (omega arith)
+  steps-add zero more progress =
+      let e : zero + more ≡ more = omega arith in
+      ap (λ (n : ℕ). steps code world n progress) e
   steps-add (suc first) more progress =
       let e : suc first + more ≡ suc (first + more) = omega arith in
       ap (λ (n : ℕ). steps code world n progress) e ∙ steps-add first more (once code world progress)
 
   pub steps-swap : (first more : ℕ) (progress : Progress) → steps code world more (steps code world first progress) ≡ steps code world first (steps code world more progress)
   steps-swap first more progress =
-      sym (steps-add first more progress) ∙ ap (λ (n : ℕ). steps code world n progress) (omega arith) ∙ steps-add more first progress
+      let e : first + more ≡ more + first = omega arith in
+      sym (steps-add first more progress) ∙ ap (λ (n : ℕ). steps code world n progress) e ∙ steps-add more first progress
 
   -- one turn more
   pub one-more : (count : ℕ) (progress : Progress) → steps code world (count + 1) progress ≡ once code world (steps code world count progress)
@@ -70,7 +73,7 @@ module _ (code : Code) (world : World) where
 
   -- the turns of a path
   pub path-counts : (start there : Config) → Path code world start there → (count : ℕ) × (steps code world count (Going start) ≡ Going there)
-  path-counts start there (stays) = (0, refl)
-  path-counts start there (turns middle there path turn grows) =
+  path-counts start there stays = (0, refl)
+  path-counts start there (turns middle next path turn grows) =
       let earlier = path-counts start middle path in
       (earlier.0 + 1, one-more earlier.0 (Going start) ∙ ap (once code world) earlier.1 ∙ turn)

@@ -1,11 +1,13 @@
 -- A stack grows at the end of its list, and is seen from there.
-use Rattle.std.proofs.Common.{◌≡◌, ◌⊎◌, inl, inr, ℕ, ◌+◌, ◌-◌, ◌<◌, ◌≤◌, List, [], ◌∷◌, ◌++◌, length, get_or, reverse, take, drop, refl, ap, sym, ◌∙◌, subst, arith}
-use Rattle.std.specs.Prelude.{slice_get, unwrap_or}
-use Rattle.std.proofs.lemmas.List.{reverse-append, reverse-reverse, length-reverse, length-drop, take-append-drop, drop_all, get_or-reverse, append-nil}
-use Rattle.std.proofs.lemmas.Option.{unwrap_or-slice_get}
+use Rattle.std.proofs.Common.{◌≡◌, ◌⊎◌, inl, inr, ℕ, zero, suc, ◌+◌, ◌-◌, ◌<◌, ◌≤◌, List, [], ◌∷◌, ◌++◌, length, get_or, reverse, take, drop, refl, ap, sym, ◌∙◌, subst, arith}
+use Rattle.std.specs.Prelude.{Option, slice_get, slice_set, unwrap_or}
+use Rattle.std.proofs.lemmas.List.{reverse-append, reverse-reverse, length-reverse, length-drop, take-append-drop, drop_all, get_or-reverse, take_all}
+use Rattle.std.proofs.lemmas.Option.{slice_get_past, unwrap_or-slice_get}
 use Rattle.std.proofs.Math.Seq.{drop-append_seam, take-append_seam}
-use Rattle.std.proofs.lemmas.List.{take_all}
-use Rattle.core.proofs.str.Laws.{order}
+use Rattle.std.proofs.lemmas.Bool.{cases_lt}
+use Rattle.ext_mean.specs.declared.state.Value.{Value}
+use Rattle.ext_mean.specs.MeaningValues.{nothing}
+use Rattle.gen_vm.specs.Depths.{at_depth}
 
 pub reverse-pushed : {X : Type 0} (items : List X) (item : X) → reverse (items ++ item ∷ []) ≡ item ∷ reverse items
 reverse-pushed items item = reverse-append items (item ∷ [])
@@ -44,14 +46,33 @@ all-taken items count many =
 
 -- so many of the last items are gone
 pub reverse-kept : {X : Type 0} (items : List X) (count : ℕ) → reverse (take (length items - count) items) ≡ drop count (reverse items)
-reverse-kept items count = elim (order count (length items)) [
+reverse-kept items count = elim (cases_lt count (length items)) [
   | inl less ↦ kept-some items count (omega arith)
   | inr more ↦ all-kept items count more
 ]
 
 -- and these are they
 pub reverse-taken : {X : Type 0} (items : List X) (count : ℕ) → drop (length items - count) items ≡ reverse (take count (reverse items))
-reverse-taken items count = elim (order count (length items)) [
+reverse-taken items count = elim (cases_lt count (length items)) [
   | inl less ↦ taken-some items count (omega arith)
   | inr more ↦ all-taken items count more
 ]
+
+-- a value by its depth
+pub at_depth-reverse : (items : List Value) (depth : ℕ) → depth < length items → at_depth depth (reverse items) ≡ unwrap_or (slice_get items (length items - 1 - depth)) nothing
+at_depth-reverse items depth within =
+    unwrap_or-slice_get (reverse items) depth nothing ∙ get_or-reverse items depth nothing within
+    ∙ sym (unwrap_or-slice_get items (length items - 1 - depth) nothing)
+
+pub at_depth-past : (items : List Value) (depth : ℕ) → length items ≤ depth → at_depth depth (reverse items) ≡ nothing
+at_depth-past items depth past =
+    let long : length (reverse items) ≤ depth = omega (arith, length-reverse items) in
+    ap (λ (z : Option Value). unwrap_or z nothing) (slice_get_past (reverse items) depth long)
+
+-- a slot that is not there stays so
+pub set-past : {X : Type 0} (items : List X) (at : ℕ) (item : X) → length items ≤ at → slice_set items at item ≡ items
+set-past [] at item past = refl
+set-past (first ∷ items) zero item past = absurd (omega arith)
+set-past (first ∷ items) (suc at) item past = ap (λ z. first ∷ z) (set-past items at item (omega arith))
+
+pub ruleset stacks = (reverse-pushed, reverse-kept, reverse-taken, at_depth-reverse, at_depth-past, set-past)

@@ -11,7 +11,7 @@ use Rattle.gen_vm.specs.declared.paused.Paused.{Paused}
 use Rattle.gen_vm.specs.declared.paused.Paused.TheVariants as paused
 use Rattle.gen_vm.specs.declared.phase.Phase.{Phase}
 use Rattle.gen_vm.specs.declared.phase.Phase.TheVariants.{Ready, Waiting, Over}
-use Rattle.gen_vm.specs.Running.{Running, world_with}
+use Rattle.gen_vm.specs.Running.{HasEnded, Running, world_with}
 
 -- the outcome and the changes of a run that has ended are those of the meaning
 abbrev pub EndedWith : Run → Phase → Type 0
@@ -25,17 +25,19 @@ pub record EndsAs (run : Run) (phase : Phase) (used : ℕ) : Type 0 where
   pub unspent : run ≢ Spent
   pub units : units_of used run ≡ used
 
--- a run waits for the record that the meaning wants, with the units that the meaning has used there
-pub record WaitsFor (run : Run) (table : TableId) (key : List ℕ) (phase : Phase) (used : ℕ) : Type 0 where
-  pub waits : phase ≡ Waiting table key
-  pub wants : run ≡ Wants table key used
+-- each answer, by where the run then stands
+abbrev pub Tells : Paused → Phase → Type 0
+Tells (paused.Wants table key) phase = phase ≡ Waiting table key
+Tells paused.Out phase = phase ≡ Ready
+Tells paused.Ended phase = HasEnded phase
+Tells paused.Memory phase = phase ≡ Ready
 
--- each answer, by where the run then stands and by the meaning
+-- and by the meaning, with the units that the run has then used; want of memory tells nothing
 abbrev pub IsAnswer : Paused → Running → Run → Type 0
-IsAnswer (paused.Wants table key) after run = WaitsFor run table key after.phase after.here.used
-IsAnswer paused.Out after run = (after.phase ≡ Ready) × (run ≡ Spent)
+IsAnswer (paused.Wants table key) after run = run ≡ Wants table key after.here.used
+IsAnswer paused.Out after run = run ≡ Spent
 IsAnswer paused.Ended after run = EndsAs run after.phase after.here.used
-IsAnswer paused.Memory after run = after.phase ≡ Ready
+IsAnswer paused.Memory after run = Unit {0}
 
 -- what a call of the machine leaves as it was, and the units that it may use: none where the run has
 -- already used as many as the limit

@@ -1,9 +1,11 @@
 -- What a function of the machine does, as a turn of the definition.
 use Rattle.std.specs.Prelude.{◌≡◌, ◌≤◌, ℕ, Result, Ok, Err}
+use Rattle.sp_base.specs.declared.outcomes.Trap.TheVariants.{Denied}
+use Rattle.sp_base.specs.RightsList.{can_read}
 use Rattle.ext_mean.specs.declared.run.Run.{Run}
 use Rattle.ext_mean.specs.declared.run.Run.TheVariants.{Done, Trapped, Spent, Wants}
 use Rattle.ext_mean.specs.declared.state.State.{State}
-use Rattle.ext_mean.specs.Work.{Step, Next, Ends}
+use Rattle.ext_mean.specs.Work.{World, Step, Next, Ends, Work, ◌>>=◌, charge, require}
 use Rattle.gen_code.specs.Machine.{Config, Progress, Going, Over, state_of}
 use Rattle.gen_vm.specs.declared.halt.Halt.{Halt}
 use Rattle.gen_vm.specs.declared.halt.Halt.TheVariants.{Memory, Ended}
@@ -26,6 +28,10 @@ abbrev pub Pays : Result ℕ Halt → State → Step (Unit {0}) → Type 0
 Pays (Ok used) state step = step ≡ Next tt (record state { used = used })
 Pays (Err Memory) state step = Unit {0}
 Pays (Err (Ended run)) state step = (step ≡ Ends run) × HasUsed state.used run
+
+-- the charge of a read, behind the level of its table
+abbrev pub pays_read : World → ℕ → Work (Unit {0})
+pays_read world table = require (can_read world.view.rights table) Denied >>= (λ _. charge world 16)
 
 -- where a run stands behind a work of the meaning
 abbrev pub worked : Config → State → Config

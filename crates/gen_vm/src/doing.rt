@@ -1,7 +1,7 @@
 use sp_base::{Key, TableId};
 
 /// Who reads a record.
-#[derive(Clone, Copy, Debug)]
+#[derive(Clone, Copy)]
 pub enum Asker {
     /// A `get`, which jumps to this instruction where the record is absent.
     ForGet(u32),
@@ -10,7 +10,7 @@ pub enum Asker {
 }
 
 /// What a run does next.
-#[derive(Debug, Drop)]
+#[derive(Drop)]
 pub enum Doing {
     /// The next instruction.
     Working,

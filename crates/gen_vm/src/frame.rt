@@ -3,7 +3,7 @@ use crate::stack::Stack;
 use std::marker::Model;
 
 /// What a caller goes on with behind its call.
-#[derive(Debug, Drop)]
+#[derive(Drop)]
 pub struct Frame {
     pub function: usize,
     pub pc: usize,

@@ -6,7 +6,7 @@ use sp_base::Memory;
 use std::alloc::{AllocError, AllocFailed};
 
 /// Why a piece of work handed on nothing.
-#[derive(Debug, Drop)]
+#[derive(Drop)]
 pub enum Halt {
     /// There was no memory.
     Memory,

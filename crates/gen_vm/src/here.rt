@@ -5,7 +5,7 @@ use crate::stack::Stack;
 use sp_base::Write;
 
 /// Where a run stands, and what it has so far.
-#[derive(Debug, Drop)]
+#[derive(Drop)]
 pub struct Here {
     pub function: usize,
     /// The number of the next instruction.

@@ -1,13 +1,12 @@
 ghost use Rattle.std.specs.Prelude.{◌≡◌, ◌+◌, ◌<◌, ◌^◌, drop, length, IfOk};
-ghost use Rattle.sp_base.specs.declared.outcomes.Trap.TheVariants.{Denied, Size};
+ghost use Rattle.sp_base.specs.declared.outcomes.Trap.TheVariants.{Size};
 ghost use Rattle.sp_base.specs.Places.{Place};
-ghost use Rattle.sp_base.specs.RightsList.{can_read};
 ghost use Rattle.ext_mean.specs.MeaningValues.{bytes_of, is_key, number_of, part_of, pending};
 ghost use Rattle.ext_mean.specs.MeaningStatements.{found};
-ghost use Rattle.ext_mean.specs.Work.{◌>>=◌, charge, require};
+ghost use Rattle.ext_mean.specs.Work.{require};
 ghost use Rattle.gen_code.specs.Machine.{ForGet, ForMulti, answers, does, last, reads, second, state_of, takes_next};
 ghost use Rattle.gen_vm.specs.Places.{asker_of, here_of, world_of};
-ghost use Rattle.gen_vm.specs.Turns.{Finds, Pays, Spends, Turns};
+ghost use Rattle.gen_vm.specs.Turns.{Finds, Pays, Spends, Turns, pays_read};
 
 use crate::bytes::{is_key, is_width, key_of, part_of};
 use crate::doing::{Asker, Doing};
@@ -35,7 +34,7 @@ impl Here {
     /// The units used behind a read of a table, whose level comes first.
     fn read_paid(&self, world: &World, table: u64) -> Result<u32, Halt>
         ensures paid { let state = state_of (here_of self.now) in
-            Pays result state ((require (can_read world.now.rights.now table) Denied >>= (λ _. charge (world_of world.now) 16)) state) }
+            Pays result state (pays_read (world_of world.now) table state) }
         ensures small { IfOk result (λ used. table < 2 ^ 32) }
     {
         self.require(can_read(world.rights, table), Trap::Denied)?;

@@ -5,7 +5,7 @@ ghost use Rattle.ext_mean.specs.Views.{part};
 ghost use Rattle.gen_code.specs.Does.{Does, IsOfProgram};
 ghost use Rattle.gen_code.specs.declared.code.Code.{Code as CodeValue};
 ghost use Rattle.gen_code.specs.Machine.{begin};
-ghost use Rattle.gen_vm.specs.Answers.{GoesTo, IsAnswer, Pauses, Resumes};
+ghost use Rattle.gen_vm.specs.Answers.{GoesTo, IsAnswer, Pauses, Resumes, Tells};
 ghost use Rattle.gen_vm.specs.Places.{here_of};
 ghost use Rattle.gen_vm.specs.Running.{HasEnded, IsWaiting, begun, fed_with};
 ghost use Rattle.gen_vm.specs.Standing.{Stands};
@@ -111,6 +111,7 @@ impl Gen {
         // The answer is what any program that the code does means with this limit on the records fed.
         ensures answer { (program : Program) → Does code.now program
             → IsAnswer result self.new (mean program self.old.args limit (part self.old.fed self.old.rights)) }
+        ensures told { Tells result self.new.phase }
         // What was handed in stays, units are only added, and never past the limit.
         ensures resumes { Resumes limit self.old self.new }
         // Unless the run has ended it may go on from where it stands, which its instructions led to: where

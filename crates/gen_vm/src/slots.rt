@@ -12,7 +12,7 @@ use std::marker::Model;
 use std::mem;
 
 /// The variables in scope, by their number.
-#[derive(Debug, Drop)]
+#[derive(Drop)]
 pub struct Slots {
     items: Vec<Value>,
 }
@@ -26,6 +26,7 @@ impl Model for Slots {
     ghost view = { λ s. s.items.items };
 }
 
+#[tactic(auto, using(crate::proofs::StackLemmas::stacks))]
 impl Slots {
     /// No variables.
     pub fn new(alloc: Global) -> Slots

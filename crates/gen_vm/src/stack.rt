@@ -12,7 +12,7 @@ use std::alloc::Global;
 use std::marker::Model;
 
 /// The values that wait. Contracts see them with the last one first.
-#[derive(Debug, Drop)]
+#[derive(Drop)]
 pub struct Stack {
     items: Vec<Value>,
 }
@@ -26,6 +26,7 @@ impl Model for Stack {
     ghost view = { λ s. reverse s.items.items };
 }
 
+#[tactic(auto, using(crate::proofs::StackLemmas::stacks))]
 impl Stack {
     /// No values.
     pub fn new(alloc: Global) -> Stack

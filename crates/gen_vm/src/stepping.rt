@@ -21,10 +21,11 @@ fn op_at(code: &Code, function: usize, pc: usize) -> Option<&Op>
     ensures op { unwrap_or (option_copied result) Return ≡ op_at code.now function pc }
     ensures below { OnSome result (pc < MOST_PC) }
 {
-    match code.functions.get(function) {
-        Some(function) => function.ops.get(pc),
-        None => None,
-    }
+    let Some(function) = code.functions.get(function) else {
+        return None;
+    };
+    let ops = function.ops.as_slice();
+    if pc < ops.len() { Some(&ops[pc]) } else { None }
 }
 
 impl Here {
@@ -118,7 +119,7 @@ pub fn run(here: &mut Here, world: &World, code: &Code) -> Halt
     ensures halts { Halts code.now (world_of world.now) (here_of here.old) result (here_of here.new) }
     ensures used { Spends world.now.limit here.old.used here.new.used }
 {
-    loop {
+    'turns: loop {
         if let Err(halt) = here.step(world, code) {
             return halt;
         }
