@@ -4,6 +4,8 @@
 
 mod code;
 mod op;
+mod sound;
 
 pub use code::{Code, CodeFn};
 pub use op::Op;
+pub use sound::is_sound;

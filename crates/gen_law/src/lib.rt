@@ -3,4 +3,4 @@
 
 mod laws;
 
-pub use laws::{code_is_sound, code_means_the_same};
+pub use laws::code_means_the_same;
