@@ -6,3 +6,4 @@ pub mod GoingLemmas
 pub mod SteadyLemmas
 pub mod StandingLemmas
 pub mod AnswerLemmas
+pub mod ResumeLemmas

@@ -2,11 +2,12 @@
 use Rattle.std.proofs.Common.{◌≡◌, ◌⊎◌, inl, inr, ℕ, zero, suc, ◌+◌, ◌-◌, ◌<◌, ◌≤◌, List, [], ◌∷◌, ◌++◌, length, get_or, reverse, take, drop, refl, ap, sym, ◌∙◌, subst, arith}
 use Rattle.std.specs.Prelude.{Option, slice_get, slice_set, unwrap_or}
 use Rattle.std.proofs.lemmas.List.{reverse-append, reverse-reverse, length-reverse, length-drop, take-append-drop, drop_all, get_or-reverse, take_all}
-use Rattle.std.proofs.lemmas.Option.{slice_get_past, unwrap_or-slice_get}
+use Rattle.std.proofs.lemmas.Option.{slice_get-get_or, slice_get_past, unwrap_or-slice_get}
 use Rattle.std.proofs.Math.Seq.{drop-append_seam, take-append_seam}
 use Rattle.std.proofs.lemmas.Bool.{cases_lt}
 use Rattle.ext_mean.specs.declared.state.Value.{Value}
 use Rattle.ext_mean.specs.MeaningValues.{nothing}
+use Rattle.gen_code.specs.Machine.{slot}
 use Rattle.gen_vm.specs.Depths.{at_depth}
 
 pub reverse-pushed : {X : Type 0} (items : List X) (item : X) → reverse (items ++ item ∷ []) ≡ item ∷ reverse items
@@ -74,5 +75,16 @@ pub set-past : {X : Type 0} (items : List X) (at : ℕ) (item : X) → length it
 set-past [] at item past = refl
 set-past (first ∷ items) zero item past = absurd (omega arith)
 set-past (first ∷ items) (suc at) item past = ap (λ z. first ∷ z) (set-past items at item (omega arith))
+
+-- what is written twice at one place is what was written last
+pub set-set : {X : Type 0} (items : List X) (at : ℕ) (first second : X) → slice_set (slice_set items at first) at second ≡ slice_set items at second
+set-set [] at first second = refl
+set-set (item ∷ items) zero first second = refl
+set-set (item ∷ items) (suc at) first second = ap (λ z. item ∷ z) (set-set items at first second)
+
+-- the value of a slot that is there
+pub slot-read : (items : List Value) (at : ℕ) (value : Value) → at < length items → value ≡ get_or items at value → value ≡ slot items at
+slot-read items at value within read =
+    read ∙ sym (ap (λ (z : Option Value). unwrap_or z nothing) (slice_get-get_or items at value within))
 
 pub ruleset stacks = (reverse-pushed, reverse-kept, reverse-taken, at_depth-reverse, at_depth-past, set-past)

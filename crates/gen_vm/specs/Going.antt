@@ -27,4 +27,5 @@ pub data Path (code : Code) (world : World) (start : Config) : Config → Type 0
 pub record Halts (code : Code) (world : World) (start : Config) (halt : Halt) (stop : Config) : Type 0 where
   pub there : Config
   pub path : Path code world start there
+  pub within : start.used ≤ world.budget → there.used ≤ world.budget
   pub turn : Turns (Err halt) there stop (once code world (Going there))

@@ -93,8 +93,9 @@ impl Here {
 
     /// The run comes to its end.
     fn finish(&mut self, world: &World) -> Run
-        ensures { let here = here_of self.old in
+        ensures run { let here = here_of self.old in
             result ≡ Done (record { code = number_of (last here); bytes = here.reply }) here.writes here.used }
+        ensures used { self.new.used ≡ self.old.used }
     {
         let code = self.last_number();
         let bytes = mem::replace(&mut self.reply, Vec::new(world.alloc));

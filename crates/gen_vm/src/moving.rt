@@ -62,9 +62,7 @@ impl Here {
             (pushes (slot here.slots number) (record here { slots = slice_set here.slots number nothing })) }
         ensures used { self.new.used ≡ self.old.used }
     {
-        self.stack.push(Value::Int(0))?;
-        let value = self.slots.take(number);
-        self.stack.set_last(value);
+        self.stack.take_slot(&mut self.slots, number)?;
         self.pc += 1;
         Ok(())
     }

@@ -1,7 +1,7 @@
-ghost use Rattle.std.specs.Prelude.{◌≡◌, ◌<◌, ◌∷◌, [], drop, length, take, reverse, unwrap_or, IfOk, OnOk, OnErr};
+ghost use Rattle.std.specs.Prelude.{◌≡◌, ◌∷◌, [], drop, slice_set, take, reverse, unwrap_or, IfOk, OnOk, OnErr};
 ghost use Rattle.std.specs.Option.{option_copied};
 ghost use Rattle.ext_mean.specs.MeaningValues.{bytes_of, nothing, number_of, truth_of};
-ghost use Rattle.gen_code.specs.Machine.{below, top};
+ghost use Rattle.gen_code.specs.Machine.{below, slot, top};
 ghost use Rattle.gen_vm.specs.Depths.{at_depth};
 
 use crate::slots::Slots;
@@ -57,13 +57,17 @@ impl Stack {
         Ok(())
     }
 
-    /// The last value becomes this one.
-    pub fn set_last(&mut self, value: Value)
-        requires { 0 < length self.old }
-        ensures { self.new ≡ value ∷ below self.old }
+    /// The value of a slot moves here. Without memory nothing changes.
+    pub fn take_slot(&mut self, slots: &mut Slots, number: usize) -> Result<(), Memory>
+        ensures ok { OnOk result (self.new ≡ slot slots.old number ∷ self.old) }
+        ensures rest { OnOk result (slots.new ≡ slice_set slots.old number nothing) }
+        ensures err { OnErr result (self.new ≡ self.old) }
+        ensures kept { OnErr result (slots.new ≡ slots.old) }
     {
-        let last = self.items.len() - 1;
-        self.items[last] = value;
+        self.items.reserve(1)?;
+        let value = slots.take(number);
+        self.items.push_reserved(value);
+        Ok(())
     }
 
     /// A value in place of the last ones, of which so many are taken.
