@@ -1,9 +1,6 @@
 -- What a pause says of the meaning, and what it leaves.
-use Rattle.std.proofs.Common.{◌≡◌, ◌≢◌, ℕ, List, [], refl, ap, sym, ◌∙◌, subst}
+use Rattle.std.proofs.Common.{◌≡◌, ◌≢◌, [], refl, ap, sym, ◌∙◌, subst}
 use Rattle.sp_base.specs.declared.outcomes.Outcome.TheVariants as outcome
-use Rattle.sp_base.specs.declared.numbers.TableId.{TableId}
-use Rattle.sp_base.specs.declared.reads.ReadItem.{ReadItem}
-use Rattle.sp_base.specs.declared.rights.Level.{Level}
 use Rattle.ext_mean.specs.declared.run.Run.{Run}
 use Rattle.ext_mean.specs.declared.run.Run.TheVariants.{Done, Trapped, Spent, Wants}
 use Rattle.gen_code.specs.Machine.{Config}

@@ -1,13 +1,13 @@
 -- Work that ends the run, or for which there is no memory, leaves a run where it stands.
-use Rattle.std.proofs.Common.{◌≡◌, Result, Ok, Err, refl, ap, ◌∙◌}
+use Rattle.std.proofs.Common.{Err, refl, ap}
 use Rattle.ext_mean.specs.declared.run.Run.{Run}
 use Rattle.ext_mean.specs.declared.run.Run.TheVariants.{Done, Trapped, Spent, Wants}
 use Rattle.ext_mean.specs.declared.state.State.{State}
-use Rattle.ext_mean.specs.Work.{Step, Next, Ends, Work, after}
-use Rattle.gen_code.specs.Machine.{Config, Progress, Going, Over, behind, state_of}
+use Rattle.ext_mean.specs.Work.{Step, Work, after}
+use Rattle.gen_code.specs.Machine.{Config, Progress, behind, state_of}
 use Rattle.gen_vm.specs.declared.halt.Halt.{Halt}
 use Rattle.gen_vm.specs.declared.halt.Halt.TheVariants.{Memory, Ended}
-use Rattle.gen_vm.specs.Turns.{Finds, HasUsed, Stays, Stops, Turns, Works}
+use Rattle.gen_vm.specs.Turns.{Finds, Stays, Turns}
 
 pub stays-itself : (run : Run) (here : Config) → Stays run here here
 stays-itself (Done reply writes used) here = tt

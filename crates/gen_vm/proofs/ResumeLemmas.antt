@@ -1,5 +1,5 @@
 -- A call of the machine: where the run then stands, and what its answer says.
-use Rattle.std.proofs.Common.{◌≡◌, ◌≢◌, ℕ, ◌+◌, ◌≤◌, List, refl, ap, sym, ◌∙◌, subst, arith}
+use Rattle.std.proofs.Common.{◌≡◌, ◌≢◌, ℕ, ◌≤◌, List, refl, ap, sym, ◌∙◌, subst, arith}
 use Rattle.sp_base.specs.declared.numbers.TableId.{TableId}
 use Rattle.sp_base.specs.declared.reads.ReadItem.{ReadItem}
 use Rattle.sp_base.specs.declared.rights.Level.{Level}
@@ -7,7 +7,6 @@ use Rattle.ext_mean.specs.declared.run.Run.{Run}
 use Rattle.ext_mean.specs.declared.tree.Program.{Program}
 use Rattle.ext_mean.specs.Meaning.{mean}
 use Rattle.ext_mean.specs.Views.{part}
-use Rattle.ext_mean.specs.Work.{World}
 use Rattle.gen_code.specs.declared.code.Code.{Code}
 use Rattle.gen_code.specs.Does.{Does}
 use Rattle.gen_code.specs.Machine.{Config, Going, most_turns, steps}

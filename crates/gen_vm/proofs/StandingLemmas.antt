@@ -1,5 +1,5 @@
 -- A run that stands goes on to where it stands, and its answer is what the program means.
-use Rattle.std.proofs.Common.{◌≡◌, ℕ, zero, suc, ◌+◌, ◌≤◌, List, [], ◌∷◌, ◌++◌, Bool, true, false, Option, Some, None, refl, ap, sym, ◌∙◌, subst, arith, if◌then◌else◌}
+use Rattle.std.proofs.Common.{◌≡◌, ℕ, ◌+◌, ◌≤◌, List, [], ◌∷◌, ◌++◌, Bool, true, false, Option, Some, refl, ap, sym, ◌∙◌, subst, arith, if◌then◌else◌}
 use Rattle.sp_base.specs.declared.numbers.TableId.{TableId}
 use Rattle.sp_base.specs.declared.reads.ReadItem.{ReadItem}
 use Rattle.sp_base.specs.declared.rights.Level.{Level}
@@ -11,7 +11,7 @@ use Rattle.ext_mean.specs.Views.{View, part, place_of, value_read}
 use Rattle.ext_mean.specs.Work.{World}
 use Rattle.gen_code.specs.declared.code.Code.{Code}
 use Rattle.gen_code.specs.Does.{Does}
-use Rattle.gen_code.specs.Machine.{Config, Progress, Going, Over, begin, most_turns, once, steps}
+use Rattle.gen_code.specs.Machine.{Config, Going, Over, begin, most_turns, once, steps}
 use Rattle.gen_vm.specs.Going.{IsOver, Path, stays, turns}
 use Rattle.gen_vm.specs.Standing.{ComesTo, Knows}
 use Rattle.gen_vm.proofs.GoingLemmas.{one-more, over-alike, over-from}

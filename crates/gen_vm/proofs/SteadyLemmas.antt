@@ -1,7 +1,7 @@
 -- A turn that goes on goes on alike with any budget that holds the units used, and on any view that knows
 -- as much.
-use Rattle.std.proofs.Common.{◌≡◌, ℕ, ◌+◌, ◌/◌, ◌%◌, ◌==◌, ◌≤◌, ◌&&◌, Bool, true, false, List, ◌∷◌, length, take, drop, replicate, Option, Some, None, refl, ap, sym, ◌∙◌, subst, arith, nat_le, if◌then◌else◌}
-use Rattle.std.proofs.lemmas.Bool.{leb-true, le-leb}
+use Rattle.std.proofs.Common.{◌≡◌, ℕ, ◌+◌, ◌/◌, ◌%◌, ◌==◌, ◌≤◌, ◌&&◌, Bool, true, false, List, ◌∷◌, length, drop, replicate, Option, Some, None, refl, ap, sym, ◌∙◌, arith, nat_le, if◌then◌else◌}
+use Rattle.std.proofs.lemmas.Bool.{le-leb}
 use Rattle.sp_base.specs.declared.numbers.TableId.{TableId}
 use Rattle.sp_base.specs.declared.outcomes.Trap.{Trap}
 use Rattle.sp_base.specs.declared.rights.Level.{Level}
@@ -15,14 +15,13 @@ use Rattle.ext_mean.specs.declared.state.State.{State}
 use Rattle.ext_mean.specs.declared.state.Value.{Value}
 use Rattle.ext_mean.specs.declared.state.Value.TheVariants as value
 use Rattle.ext_mean.specs.Views.{View}
-use Rattle.ext_mean.specs.MeaningValues.{number_of, bytes_of, pending, left_by, is_key, part_of}
+use Rattle.ext_mean.specs.MeaningValues.{number_of, bytes_of, pending, is_key, part_of}
 use Rattle.ext_mean.specs.MeaningStatements.{found}
-use Rattle.ext_mean.specs.MeaningExpressions.{new_temp, new_buffer}
-use Rattle.ext_mean.specs.Work.{World, Step, Next, Ends, Work, after, ◌>>=◌, give, charge, require, known_or_wanted}
+use Rattle.ext_mean.specs.Work.{World, Step, Next, Ends, after, ◌>>=◌, give, charge, require, known_or_wanted}
 use Rattle.gen_code.specs.declared.code.Code.{Code}
 use Rattle.gen_code.specs.declared.op.Op.{Op}
 use Rattle.gen_code.specs.declared.op.Op.TheVariants as op
-use Rattle.gen_code.specs.Machine.{Config, Progress, Going, Over, Doing, Working, Reading, Asker, ForGet, ForMulti, state_of, behind, does, last, second, third, fourth, below, goes_to, pushes, replaces, takes, reads, answers, takes_next, op_at, perform, goes_on, once}
+use Rattle.gen_code.specs.Machine.{Config, Progress, Going, Over, Doing, Working, Reading, Asker, ForGet, ForMulti, state_of, behind, does, last, second, third, fourth, below, goes_to, pushes, reads, answers, takes_next, op_at, perform, goes_on, once}
 use Rattle.gen_vm.specs.Standing.{Knows}
 
 -- what was over does not go on

@@ -1,6 +1,5 @@
 -- What an answer of the machine says of what the program means with that limit on the records fed.
-use Rattle.std.specs.Prelude.{◌≡◌, ◌≢◌, ◌≤◌, ℕ, List, []}
-use Rattle.sp_base.specs.declared.numbers.TableId.{TableId}
+use Rattle.std.specs.Prelude.{◌≡◌, ◌≢◌, ◌≤◌, ℕ, []}
 use Rattle.sp_base.specs.declared.outcomes.Outcome.TheVariants as outcome
 use Rattle.ext_mean.specs.declared.run.Run.{Run}
 use Rattle.ext_mean.specs.declared.run.Run.TheVariants.{Done, Trapped, Spent, Wants}

@@ -2,7 +2,7 @@
 use Rattle.std.specs.Prelude.{◌≡◌, ◌≤◌, ℕ, zero, suc, Err}
 use Rattle.ext_mean.specs.Work.{World}
 use Rattle.gen_code.specs.declared.code.Code.{Code}
-use Rattle.gen_code.specs.Machine.{Config, Progress, Going, Over, once, steps}
+use Rattle.gen_code.specs.Machine.{Config, Progress, Going, Over, once}
 use Rattle.gen_vm.specs.declared.halt.Halt.{Halt}
 use Rattle.gen_vm.specs.Turns.{Turns}
 

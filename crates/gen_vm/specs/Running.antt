@@ -1,13 +1,12 @@
 -- A run that may pause, and where it stands.
-use Rattle.std.specs.Prelude.{◌≡◌, ◌≢◌, ◌≤◌, ℕ, ◌-◌, ◌++◌, ◌∷◌, [], List, length, Option, Some}
+use Rattle.std.specs.Prelude.{ℕ, ◌++◌, ◌∷◌, [], List, Option}
 use Rattle.sp_base.specs.declared.numbers.TableId.{TableId}
 use Rattle.sp_base.specs.declared.reads.ReadItem.{ReadItem}
 use Rattle.sp_base.specs.declared.rights.Level.{Level}
-use Rattle.ext_mean.specs.Views.{View, part}
+use Rattle.ext_mean.specs.Views.{part}
 use Rattle.ext_mean.specs.Work.{World}
 use Rattle.gen_code.specs.declared.code.Code.{Code}
-use Rattle.gen_code.specs.Does.{IsOfProgram}
-use Rattle.gen_code.specs.Machine.{Config, Going, begin, once, steps}
+use Rattle.gen_code.specs.Machine.{Config, begin}
 use Rattle.gen_vm.specs.declared.phase.Phase.{Phase}
 use Rattle.gen_vm.specs.declared.phase.Phase.TheVariants.{Ready, Waiting, Over}
 

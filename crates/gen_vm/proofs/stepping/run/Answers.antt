@@ -1,6 +1,6 @@
-use Rattle.std.proofs.Common.{◌≡◌, arith}
-use Rattle.gen_code.specs.Machine.{Going, most_turns, once}
-use Rattle.gen_vm.specs.Going.{Path, stays, turns}
+use Rattle.std.proofs.Common.{arith}
+use Rattle.gen_code.specs.Machine.{most_turns}
+use Rattle.gen_vm.specs.Going.{stays, turns}
 use Rattle.gen_vm.specs.Places.{here_of, world_of}
 use Rattle.gen_vm.proofs.GoingLemmas.{fewer-left, over-next}
 use Rattle.gen_vm.proofs.stepping.run.Goals as goal

@@ -1,4 +1,4 @@
-use Rattle.std.proofs.Common.{ℕ, ◌≤◌}
+use Rattle.std.proofs.Common.{◌≤◌}
 use Rattle.gen_code.specs.Machine.{Going, most_turns, steps}
 use Rattle.gen_vm.specs.Going.{IsOver, Path, turns_left}
 use Rattle.gen_vm.specs.Places.{here_of, world_of}

@@ -1,7 +1,6 @@
-use Rattle.std.proofs.Common.{◌≡◌, List, [], ◌∷◌, ◌++◌, sym, subst}
+use Rattle.std.proofs.Common.{List, sym, subst}
 use Rattle.sp_base.specs.declared.reads.ReadItem.{ReadItem}
 use Rattle.ext_mean.specs.Views.{part}
-use Rattle.gen_code.specs.declared.code.Code.{Code}
 use Rattle.gen_vm.specs.Places.{here_of}
 use Rattle.gen_vm.specs.Running.{Running, read_as}
 use Rattle.gen_vm.specs.Standing.{ComesTo, Stands}

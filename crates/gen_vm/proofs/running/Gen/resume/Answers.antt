@@ -1,4 +1,4 @@
-use Rattle.std.proofs.Common.{◌≡◌, ◌≤◌, subst, sym}
+use Rattle.std.proofs.Common.{◌≤◌, subst, sym}
 use Rattle.gen_vm.specs.declared.halt.Halt.TheVariants.{Memory, Ended}
 use Rattle.gen_vm.specs.Answers.{GoesTo, IsAnswer}
 use Rattle.ext_mean.specs.Meaning.{mean}

@@ -1,7 +1,4 @@
-use Rattle.std.proofs.Common.{◌≡◌, ◌<◌, List, length, get_or, ap, sym, ◌∙◌, arith}
-use Rattle.ext_mean.specs.declared.state.Value.{Value}
-use Rattle.ext_mean.specs.MeaningValues.{buffer_of, overwritten, with_bytes}
-use Rattle.gen_code.specs.Machine.{slot}
+use Rattle.std.proofs.Common.{◌≡◌, ◌<◌, length, get_or, arith}
 use Rattle.gen_vm.proofs.StackLemmas.{set-set, slot-read}
 use Rattle.gen_vm.proofs.slots.Slots.overwrite.Goals as goal
 
