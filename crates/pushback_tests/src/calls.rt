@@ -21,7 +21,8 @@ pub const TENANT: TenantId = TenantId(1);
 
 /// A call of caller 1 of the tenant, with no arguments.
 pub fn call(alloc: Global, number: u64, budget: u32) -> Result<Call, Fail>
-    ensures { IfOk result (λ call. MayBegin call) }
+    ensures begins { IfOk result (λ call. MayBegin call) }
+    ensures own { IfOk result (λ call. call.caller.tenant.0 ≡ 1) }
 {
     if budget < 1 || budget > 100_000 {
         return Err(Fail::new("no budget"));

@@ -8,6 +8,8 @@ mod calls;
 #[cfg(test)]
 mod carrying;
 #[cfg(test)]
+mod committing;
+#[cfg(test)]
 mod placing;
 #[cfg(test)]
 mod taking;
