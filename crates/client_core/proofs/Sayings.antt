@@ -10,7 +10,7 @@ use Rattle.sp_base.specs.declared.calls.Call.{Call}
 use Rattle.sp_base.specs.declared.numbers.CallNo.{CallNo}
 use Rattle.sp_base.specs.declared.numbers.TableId.{TableId}
 use Rattle.sp_base.specs.declared.outcomes.Outcome.{Outcome}
-use Rattle.sp_base.specs.declared.outcomes.Outcome.TheVariants as outcome
+use Rattle.sp_base.specs.declared.outcomes.Outcome.TheVariants as outcomes
 use Rattle.sp_base.specs.declared.rights.Level.{Level}
 use Rattle.sp_base.specs.declared.writes.Change.{Change}
 use Rattle.sp_base.specs.declared.writes.Change.TheVariants.{Put, Del}
@@ -59,18 +59,18 @@ each-fits rights (write ∷ writes) may keys values = (
 )
 
 outcome-fits : (run : Run) (outcome : Outcome) → IsWithinLimits run → outcome_of run ≡ Some outcome
-    → ((code : ℕ) (bytes : List ℕ) → outcome ≡ outcome.Done (record { code = code; bytes = bytes }) → IsU64 code)
+    → ((code : ℕ) (bytes : List ℕ) → outcome ≡ outcomes.Done (record { code = code; bytes = bytes }) → IsU64 code)
     → FitsOutcome outcome
-outcome-fits run (outcome.Done reply) small is code = (code reply.code reply.bytes refl, small.reply (outcome.Done reply) is)
-outcome-fits run (outcome.Trapped trap) small is code = tt
-outcome-fits run outcome.Killed small is code = tt
+outcome-fits run (outcomes.Done reply) small is code = (code reply.code reply.bytes refl, small.reply (outcomes.Done reply) is)
+outcome-fits run (outcomes.Trapped trap) small is code = tt
+outcome-fits run outcomes.Killed small is code = tt
 
 -- nothing is known of the fault of a peer but that no more is said
 pub fault-sayable : (known : Known) → IsSayable known fault
 fault-sayable known = record {
   told = λ same. (cc);
   fits = tt;
-  meant = λ caller number outcome writes same. absurd (cc);
+  meant = record { each = λ caller number outcome writes same. absurd (cc) };
   rests = λ answers same. absurd (cc);
 }
 
@@ -78,7 +78,7 @@ pub answered-sayable : (known : Known) (answers : List CallAnswer) → IsSayable
 answered-sayable known answers = record {
   told = λ same. (cc);
   fits = tt;
-  meant = λ caller number outcome writes same. absurd (cc);
+  meant = record { each = λ caller number outcome writes same. absurd (cc) };
   rests = λ others same. refl;
 }
 
@@ -87,7 +87,7 @@ pub asking-sayable : (known : Known) (carried : Carried) → IsU32 carried.call.
 asking-sayable known carried small = record {
   told = λ same. (cc);
   fits = small;
-  meant = λ caller number outcome writes same. absurd (cc);
+  meant = record { each = λ caller number outcome writes same. absurd (cc) };
   rests = λ answers same. absurd (cc);
 }
 
@@ -97,7 +97,7 @@ fetching-sayable : (known : Known) (carried : Carried) (table : TableId) (key : 
 fetching-sayable known carried table key caller number small sized = record {
   told = λ same. (cc);
   fits = (caller, (number, (small, sized)));
-  meant = λ of at outcome writes same. absurd (cc);
+  meant = record { each = λ of at outcome writes same. absurd (cc) };
   rests = λ answers same. absurd (cc);
 }
 
@@ -109,7 +109,7 @@ finishing-sayable : (known : Known) (carried : Carried) (ext : ExtValue) (outcom
 finishing-sayable known carried ext outcome writes given caller number fits each ends = record {
   told = λ same. (cc);
   fits = (caller, (number, (fits, each)));
-  meant = λ of at sent changes same.
+  meant = record { each = λ of at sent changes same.
       let one : outcome ≡ sent = (cc) in
       let other : writes ≡ changes = (cc) in
       record {
@@ -122,7 +122,7 @@ finishing-sayable known carried ext outcome writes given caller number fits each
         ends =
             subst (λ (list : List Write). EndsWith (mean ext.program carried.call.args carried.call.budget (part carried.reads known.rights)) sent list) other
             (subst (λ (o : Outcome). EndsWith (mean ext.program carried.call.args carried.call.budget (part carried.reads known.rights)) o writes) one ends);
-      };
+      } };
   rests = λ answers same. absurd (cc);
 }
 
@@ -130,7 +130,7 @@ finishing-sayable known carried ext outcome writes given caller number fits each
 ended-sayable : (known : Known) (carried : Carried) (ext : ExtValue) (outcome : Outcome) (writes : List Write)
     → ext_in known.exts carried.call.ext ≡ Some ext
     → IsU32 carried.call.caller.number → IsU64 carried.call.number.0
-    → ((code : ℕ) (bytes : List ℕ) → outcome ≡ outcome.Done (record { code = code; bytes = bytes }) → IsU64 code)
+    → ((code : ℕ) (bytes : List ℕ) → outcome ≡ outcomes.Done (record { code = code; bytes = bytes }) → IsU64 code)
     → EndsWith (mean ext.program carried.call.args carried.call.budget (part carried.reads known.rights)) outcome writes
     → IsSayable known (finishing carried outcome writes)
 ended-sayable known carried ext outcome writes given caller number code ends =
@@ -161,12 +161,12 @@ run-sayable known carried ext (run.Wants table key used) given caller number cod
         (record { table = table.0; key = key }) (ap wanted_by is) in
     fetching-sayable known carried table key caller number (readable-small known.rights table.0 due.0) due.1
 run-sayable known carried ext (run.Done reply writes used) given caller number code is =
-    ended-sayable known carried ext (outcome.Done reply) writes given caller number
+    ended-sayable known carried ext (outcomes.Done reply) writes given caller number
     (λ other bytes same. let e : reply.code ≡ other = (cc) in subst (λ (n : ℕ). IsU64 n) e code)
     (record { answers = ap outcome_of is; leaves = ap changes_of is })
 run-sayable known carried ext (run.Trapped trap used) given caller number code is =
-    ended-sayable known carried ext (outcome.Trapped trap) [] given caller number (λ other bytes same. absurd (cc))
+    ended-sayable known carried ext (outcomes.Trapped trap) [] given caller number (λ other bytes same. absurd (cc))
     (record { answers = ap outcome_of is; leaves = ap changes_of is })
 run-sayable known carried ext run.Spent given caller number code is =
-    ended-sayable known carried ext outcome.Killed [] given caller number (λ other bytes same. absurd (cc))
+    ended-sayable known carried ext outcomes.Killed [] given caller number (λ other bytes same. absurd (cc))
     (record { answers = ap outcome_of is; leaves = ap changes_of is })

@@ -30,10 +30,9 @@ pub record IsMeant (known : Known) (stage : Stage) (caller : ℕ) (number : Call
   pub ends : EndsWith (mean ext.program carried.call.args carried.call.budget (part carried.reads known.rights)) outcome writes
 
 -- each end that is sent is meant
-abbrev pub FinishesAsMeant : Known → Said → Type 0
-FinishesAsMeant known said =
-    (caller : ℕ) (number : CallNo) (outcome : Outcome) (writes : List Write)
-    → said.0 ≡ Send (Finish caller number outcome writes) → IsMeant known said.1 caller number outcome writes
+pub record FinishesAsMeant (known : Known) (said : Said) : Type 0 where
+  pub each : (caller : ℕ) (number : CallNo) (outcome : Outcome) (writes : List Write)
+      → said.0 ≡ Send (Finish caller number outcome writes) → IsMeant known said.1 caller number outcome writes
 
 -- each field of a request that is sent is within its range
 abbrev pub FitsNext : Next → Type 0

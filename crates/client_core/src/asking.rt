@@ -7,9 +7,23 @@ ghost use Rattle.sp_base.specs.Spelling.{FitCalls, FitsAsked};
 ghost use Rattle.sp_base.specs.declared.calls.Call.{Call};
 ghost use Rattle.client_core.specs.Talking.{asked_of};
 
-use sp_base::{Asked, Call, Memory};
+use sp_base::{Asked, Blob, Call, Memory};
 use std::alloc::Global;
 use wire::Calls;
+
+/// A call as its batch asks it, with these arguments.
+fn asking(call: &Call, args: Blob) -> Asked
+    ensures { result ≡ record (asked_of call.now) { args = args } }
+{
+    Asked {
+        caller: call.caller.number,
+        number: call.number,
+        ext: call.ext,
+        budget: call.budget,
+        push_ok: call.push_ok,
+        args,
+    }
+}
 
 /// A call as its batch asks it, with a copy of its arguments.
 fn asked(alloc: Global, call: &Call) -> Result<Asked, Memory>
@@ -18,14 +32,8 @@ fn asked(alloc: Global, call: &Call) -> Result<Asked, Memory>
     ensures fits { IfOk result (λ asked. FitsAsked asked) }
 {
     let args = call.args.share(alloc)?;
-    Ok(Asked {
-        caller: call.caller.number,
-        number: call.number,
-        ext: call.ext,
-        budget: call.budget,
-        push_ok: call.push_ok,
-        args,
-    })
+    let asked = asking(call, args);
+    Ok(asked)
 }
 
 /// From 1 to 64 calls as their batch asks them.

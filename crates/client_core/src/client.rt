@@ -31,8 +31,12 @@ pub struct ClientCore {
 
 impl Model for ClientCore {
     ghost use Rattle.client_core.specs.Talking.{CoreValue};
+    ghost use Rattle.std.specs.Coded.{codes};
+    ghost use Rattle.ext_mean.specs.contracts.statement.Block as block;
 
     ghost Value = { CoreValue };
+
+    ghost coded = { Prim.hlevel (codes, block.the_row.coded) };
 
     ghost view = { λ c. record { tenant = c.tenant; known = c.known; stage = c.stage } };
 }

@@ -17,8 +17,12 @@ impl Model for Exts {
     ghost use Rattle.std.specs.Prelude.{List};
     ghost use Rattle.sp_base.specs.declared.numbers.ExtNo.{ExtNo};
     ghost use Rattle.task.specs.Extensions.{ExtValue};
+    ghost use Rattle.std.specs.Coded.{codes};
+    ghost use Rattle.ext_mean.specs.contracts.statement.Block as block;
 
     ghost Value = { List (ExtNo × ExtValue) };
+
+    ghost coded = { Prim.hlevel (codes, block.the_row.coded) };
 
     ghost view = { λ e. e.items.items };
 }

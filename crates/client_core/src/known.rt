@@ -1,6 +1,6 @@
 //! How a client carries a pushed call: what it makes of each answer, by what it knows.
 
-ghost use Rattle.std.specs.Prelude.{◌≡◌, [], Some, IfOk};
+ghost use Rattle.std.specs.Prelude.{◌≡◌, ◌++◌, ◌∷◌, [], Some, IfOk};
 ghost use Rattle.client_core.specs.Finishing.{IsSayable};
 ghost use Rattle.client_core.specs.Hearing.{HearsFor, HearsGiven, HearsText, Leads, answers_heard, end_heard, ended_heard, fetch_heard, record_heard};
 ghost use Rattle.client_core.specs.Talking.{Known as KnownValue, after_run, carries, ends, ext_in, fault, finishing, pushed_reads, running, starts};
@@ -32,8 +32,12 @@ pub struct Known {
 
 impl Model for Known {
     ghost use Rattle.client_core.specs.Talking.{Known};
+    ghost use Rattle.std.specs.Coded.{codes};
+    ghost use Rattle.ext_mean.specs.contracts.statement.Block as block;
 
     ghost Value = { Known };
+
+    ghost coded = { Prim.hlevel (codes, block.the_row.coded) };
 
     ghost view = { λ k. record { rights = k.rights; exts = k.exts } };
 }

@@ -1,4 +1,4 @@
-ghost use Rattle.std.specs.Prelude.{◌≡◌, ◌++◌, length};
+ghost use Rattle.std.specs.Prelude.{◌≡◌, ◌++◌, [], IfNone};
 ghost use Rattle.std.specs.List.{zip};
 ghost use Rattle.std.specs.Option.{option_to_list};
 
@@ -69,7 +69,8 @@ impl Model for Later {
 impl Later {
     /// Takes the first call with its item, where there is one.
     pub(crate) fn pop(&mut self) -> Option<(Call, Item)>
-        ensures { self.old ≡ option_to_list result ++ self.new }
+        ensures pops { self.old ≡ option_to_list result ++ self.new }
+        ensures none { IfNone result (self.old ≡ []) }
     {
         let Some(call) = self.calls.pop_front() else {
             return None;
