@@ -42,6 +42,15 @@ abbrev pub IsFree : Option Kept → Type 0
 IsFree None = Unit {0}
 IsFree (Some kept) = IsTrue kept.doubtful
 
+-- an item with which a call may be refused before it begins
+abbrev pub IsRefusal : Item → Type 0
+IsRefusal item.Repeated = Unit {0}
+IsRefusal (item.Busy number) = Unit {0}
+IsRefusal item.BadBudget = Unit {0}
+IsRefusal (item.NoExtension count at) = Unit {0}
+IsRefusal item.Memory = Unit {0}
+IsRefusal _ = ⊥
+
 -- neither repeated in its batch nor busy
 pub record IsAlone (state : State) (earlier : List Asked) (asked : Asked) : Type 0 where
   pub first : is_among earlier asked.caller ≡ false
@@ -84,11 +93,17 @@ pub data IsItemOf (terms : Terms) (tenant : TenantId) (journal : List Entry) (st
       → IsItemOf terms tenant journal state earlier asked (item_of end)
   no_memory : IsItemOf terms tenant journal state earlier asked item.Memory
 
+-- the item of the call at this place of its batch
+pub record IsItemAt (terms : Terms) (tenant : TenantId) (journal : List Entry) (state : State) (calls : List Asked) (place : ℕ) (given : Item) : Type 0 where
+  pub asked : Asked
+  pub at : slice_get calls place ≡ Some asked
+  pub is : IsItemOf terms tenant journal state (take place calls) asked given
+
 -- each call of the batch has its item, in the batch's order
 pub record AreItems (terms : Terms) (tenant : TenantId) (journal : List Entry) (state : State) (calls : List Asked) (items : List Item) : Type 0 where
   pub many : length items ≡ length calls
-  pub each : (k : ℕ) (asked : Asked) (item : Item) → slice_get calls k ≡ Some asked → slice_get items k ≡ Some item
-      → IsItemOf terms tenant journal state (take k calls) asked item
+  pub each : (place : ℕ) (given : Item) → slice_get items place ≡ Some given
+      → IsItemAt terms tenant journal state calls place given
 
 -- what is kept of a call that was handed back: the call itself, with the extension that it names and the
 -- reads that were sent; and not too many calls are parked then

@@ -40,7 +40,7 @@ use Rattle.session.specs.declared.session.Admitted.{Admitted}
 use Rattle.session.specs.declared.session.Phase.{Phase}
 use Rattle.session.specs.declared.session.Phase.TheVariants as phase
 use Rattle.session.specs.declared.session.Session.{Session}
-use Rattle.session.specs.Batches.{AreItems, CanBegin, call_of}
+use Rattle.session.specs.Batches.{AreItems, CanBegin, IsRefusal, call_of}
 use Rattle.session.specs.States.{Kept, State, Terms}
 use Rattle.session.specs.Steps.{Step, is_in_turn}
 use Rattle.wire.specs.Answers.{EndsParked, IsIn}
@@ -152,6 +152,9 @@ pub record Awaits (session : Session) (terms : Terms) (journal : List Entry) (ca
   pub admitted : tenant_of session.admitted ≡ Some tenant
   pub items : List Item
   pub so_far : ItemsSoFar session.phase items
+  pub some : 1 ≤ length calls
+  pub few : length calls ≤ 64
+  pub refusals : AllByRecursion IsRefusal items
   pub each : (state : State) → Stands session state → AreItems terms tenant journal state calls items
 
 -- the end of a call that may begin holds by the journal

@@ -11,26 +11,16 @@ use Rattle.book.specs.declared.ends.CallEnd.{CallEnd}
 use Rattle.book.specs.Ends.{NamesExt}
 use Rattle.book.specs.Standing.{BookValue}
 use Rattle.wire.specs.declared.items.Item.{Item}
-use Rattle.wire.specs.declared.items.Item.TheVariants as item
 use Rattle.session.specs.declared.batch.Start.{Start}
 use Rattle.session.specs.declared.batch.Start.TheVariants as start
 use Rattle.session.specs.declared.plan.Begun.{Begun}
 use Rattle.session.specs.declared.session.Session.{Session}
-use Rattle.session.specs.Batches.{AreItems, CanBegin, IsItemOf, call_of, item_of}
+use Rattle.session.specs.Batches.{AreItems, CanBegin, IsItemOf, IsRefusal, call_of, item_of}
 use Rattle.session.specs.Standing.{HasBegun, Stands, terms_over}
 use Rattle.session.specs.States.{State}
 
 abbrev pub caller_of : Asked → ℕ
 caller_of asked = asked.caller
-
--- an item with which a call is refused before it begins
-abbrev pub IsRefusal : Item → Type 0
-IsRefusal item.Repeated = Unit {0}
-IsRefusal (item.Busy number) = Unit {0}
-IsRefusal item.BadBudget = Unit {0}
-IsRefusal (item.NoExtension count at) = Unit {0}
-IsRefusal item.Memory = Unit {0}
-IsRefusal _ = ⊥
 
 -- a call is refused with this item
 pub record IsRefused (session : Session) (book : BookValue) (journal : List Entry) (tenant : TenantId) (earlier : List Asked) (asked : Asked) (given : Item) : Type 0 where

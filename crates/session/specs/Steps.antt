@@ -13,6 +13,9 @@ use Rattle.ext_mean.specs.declared.tree.Program.{Program}
 use Rattle.ext_mean.specs.Laws.{place_in}
 use Rattle.ext_mean.specs.Refusals.{refusal_number}
 use Rattle.ext_check.specs.Checking.{IsAccepted, IsRefused}
+use Rattle.parked.specs.declared.refused.Refused.{Refused}
+use Rattle.parked.specs.declared.refused.Refused.TheVariants as refused
+use Rattle.parked.specs.Taking.{refusal_of}
 use Rattle.records.specs.GrantsList.{RightsList}
 use Rattle.rw_set.specs.ReadLists.{read_of}
 use Rattle.journal.specs.declared.entry.Entry.{Entry}
@@ -113,13 +116,13 @@ pub record IsInstallAnswer (terms : Terms) (tenant : TenantId) (journal : List E
 
 -- the text of the number that is asked for, or how many there are; want of memory says nothing
 pub data IsTextAnswer (tenant : TenantId) (journal : List Entry) (seen number : ℕ) : TextAnswer → Type 0 where
-  found : (text : List ℕ) (moment : ℕ) → IsShown journal seen moment
+  text_found : (text : List ℕ) (moment : ℕ) → IsShown journal seen moment
       → slice_get (texts_of (take moment journal) tenant) number ≡ Some text
       → IsTextAnswer tenant journal seen number (texts.Text text)
-  absent : (count moment : ℕ) → IsShown journal seen moment
+  text_absent : (count moment : ℕ) → IsShown journal seen moment
       → count ≡ length (texts_of (take moment journal) tenant) → count ≤ number
       → IsTextAnswer tenant journal seen number (texts.NoExtension count moment)
-  no_memory : IsTextAnswer tenant journal seen number texts.Memory
+  no_text_memory : IsTextAnswer tenant journal seen number texts.Memory
 
 -- ---- Parked calls
 
@@ -155,7 +158,7 @@ pub record IsNewRead (state : State) (caller number : ℕ) (table : TableId) (ke
 -- table must be readable and the kept reads fewer than the budget pays, and the record as the journal had it at
 -- the moment that is shown joins them.
 pub data IsFetchAnswer (terms : Terms) (tenant : TenantId) (journal : List Entry) (state : State) (caller number : ℕ) (table : TableId) (key : List ℕ) : FetchAnswer → List Kept → Type 0 where
-  not_parked : (left : List Kept) → IsGone state caller number left
+  not_fetched : (left : List Kept) → IsGone state caller number left
       → IsFetchAnswer terms tenant journal state caller number table key fetched.NotParked left
   again : (kept : Kept) (read : ReadItem) → IsKept state caller number kept
       → read_of kept.parked.reads (place_in table key) ≡ Some read
@@ -172,17 +175,44 @@ pub data IsFetchAnswer (terms : Terms) (tenant : TenantId) (journal : List Entry
       → IsShown journal state.seen moment → IsTrue (can_read (granted terms.grants (take moment journal) tenant) table.0)
       → length kept.parked.reads ≡ kept.parked.call.budget / 16
       → IsFetchAnswer terms tenant journal state caller number table key fetched.Many state.kept
-  no_memory : IsFetchAnswer terms tenant journal state caller number table key fetched.Memory state.kept
+  no_fetch_memory : IsFetchAnswer terms tenant journal state caller number table key fetched.Memory state.kept
 
 -- a kept call that is doubtful from now on
 abbrev pub doubted_call : Kept → Kept
 doubted_call kept = record { parked = kept.parked; doubtful = true }
 
--- The answer to a Finish, and what is kept then. Want of memory makes the call doubtful.
+-- how it is told that what a client sent is not taken
+abbrev pub refused_item : Refused → Item
+refused_item (refused.Shape code) = item.Shape code
+refused_item (refused.Foreign table) = item.Foreign table
+refused_item refused.Memory = item.Memory
+
+-- the entry of a run that ended at its client, on the reads that are kept for it
+abbrev pub sent_entry : Kept → Outcome → List Write → Entry
+sent_entry kept outcome writes = entry.Invoke kept.parked.call outcome writes (map bare kept.parked.reads) Client
+
+-- a run that was sent is judged by the journal up to the moment that is shown, and its entry stands where it
+-- was committed
+pub record IsSentVerdict (terms : Terms) (journal : List Entry) (seen : ℕ) (kept : Kept) (outcome : Outcome) (writes : List Write) (commit : Commit) : Type 0 where
+  pub shown : IsShown journal seen (moment_of commit)
+  pub told : commit ≡ verdict terms.limit (take (moment_of commit) journal) kept.parked.call
+      (sent_entry kept outcome writes) outcome kept.parked.reads
+  pub stands : StandsIn journal (sent_entry kept outcome writes) commit
+
+-- The answer to a Finish, and what is kept then: what the client sent is refused, for its shape or for a
+-- table that may not be written, and the call stays; or it is judged, and the call is gone. Want of memory makes the
+-- call doubtful.
 pub data IsFinishAnswer (terms : Terms) (tenant : TenantId) (journal : List Entry) (state : State) (caller number : ℕ) (outcome : Outcome) (writes : List Write) : Item → List Kept → Type 0 where
-  not_parked : (left : List Kept) → IsGone state caller number left
+  not_finished : (left : List Kept) → IsGone state caller number left
       → IsFinishAnswer terms tenant journal state caller number outcome writes item.NotParked left
-  no_memory : (kept : Kept) → IsKept state caller number kept
+  refused_so : (kept : Kept) (moment : ℕ) (why : Refused) → IsKept state caller number kept → IsShown journal state.seen moment
+      → refusal_of (granted terms.grants (take moment journal) tenant) outcome writes ≡ Some why
+      → IsFinishAnswer terms tenant journal state caller number outcome writes (refused_item why) state.kept
+  judged : (kept : Kept) (moment : ℕ) (given : Commit) → IsKept state caller number kept → IsShown journal state.seen moment
+      → refusal_of (granted terms.grants (take moment journal) tenant) outcome writes ≡ None
+      → IsSentVerdict terms journal state.seen kept outcome writes given
+      → IsFinishAnswer terms tenant journal state caller number outcome writes (commit_item given) (without state.kept caller)
+  no_finish_memory : (kept : Kept) → IsKept state caller number kept
       → IsFinishAnswer terms tenant journal state caller number outcome writes item.Memory
       (with_call state.kept caller (doubted_call kept))
 

@@ -1,6 +1,6 @@
 //! The answer to each kind of request.
 
-ghost use Rattle.std.specs.Prelude.{◌≡◌, max, ℕ, List, IfErr, IfOk, OnOk};
+ghost use Rattle.std.specs.Prelude.{◌≡◌, ◌≤◌, ◌⊎◌, max, ℕ, List, IfErr, IfOk, OnOk, length};
 ghost use Rattle.sp_base.specs.declared.numbers.TenantId.{TenantId};
 ghost use Rattle.sp_base.specs.declared.outcomes.Outcome.{Outcome};
 ghost use Rattle.sp_base.specs.declared.writes.Write.{Write};
@@ -11,9 +11,9 @@ ghost use Rattle.book.specs.Standing.{KeepsFixed, StandsFor};
 ghost use Rattle.wire.specs.declared.requests.Request.TheVariants as request;
 ghost use Rattle.wire.specs.Requests.{FitsRequest};
 ghost use Rattle.session.specs.Seeing.{AllCounted, install_seen, put_seen};
-ghost use Rattle.session.specs.States.{seen_in_items};
-ghost use Rattle.session.specs.Steps.{faulted};
-ghost use Rattle.session.specs.Standing.{Asks, Fits, IsOpen, IsPlain, Planned, Refused, tenant_of};
+ghost use Rattle.session.specs.States.{seen_in_items, seen_in_text};
+ghost use Rattle.session.specs.Steps.{IsTextAnswer, faulted};
+ghost use Rattle.session.specs.Standing.{Asks, Fits, IsOpen, IsPlain, IsWithin, Planned, Refused, tenant_of};
 
 use crate::batch::{Started, start_all};
 use crate::fault::Fault;
@@ -164,7 +164,10 @@ impl Session {
         if !self.conf.knows(tenant, key) {
             return self.stop(Fault::WrongKey);
         }
-        let (Ok(own), Ok(rights)) = (book.rights(tenant), book.rights(tenant)) else {
+        let Ok(own) = book.rights(tenant) else {
+            return self.stop(Fault::Memory);
+        };
+        let Ok(rights) = book.rights(tenant) else {
             return self.stop(Fault::Memory);
         };
         let at = book.len();
@@ -195,6 +198,42 @@ impl Session {
         Plan::Send(Answer::PutDone(put_told(put)))
     }
 
+    /// The text of an extension, or how many there are.
+    fn text(&self, book: &Book, tenant: TenantId, ext: ExtNo) -> TextAnswer
+        ensures told { (journal : List Entry) → StandsFor book.now journal → (seen : ℕ) → seen ≤ length journal
+            → IsTextAnswer tenant journal seen ext.0 result }
+        ensures within { IsWithin (Answer.Text result) }
+    {
+        match book.ext(tenant, ext) {
+            Ok(Some(ext)) => self.share_text(&ext),
+            Ok(None) => TextAnswer::NoExtension {
+                count: book.ext_count(tenant),
+                at: book.len(),
+            },
+            Err(Memory) => TextAnswer::Memory,
+        }
+    }
+
+    fn share_text(&self, ext: &Ext) -> TextAnswer
+        ensures told { (result ≡ TextAnswer.Memory) ⊎ (result ≡ TextAnswer.Text ext.now.text) }
+        ensures within { IsWithin (Answer.Text result) }
+    {
+        let _accepted = ext.program();
+        match Blob::of(self.alloc, ext.text()) {
+            Ok(text) => TextAnswer::Text(text),
+            Err(Memory) => TextAnswer::Memory,
+        }
+    }
+
+    /// The part of the journal that a text's answer shows was shown.
+    fn show_text(&mut self, told: &TextAnswer)
+        ensures { self.new ≡ record self.old { seen = seen_in_text self.old.seen told.now } }
+    {
+        if let TextAnswer::NoExtension { at, .. } = told {
+            self.show(*at);
+        }
+    }
+
     /// Tells the text of an extension.
     fn text_of(&mut self, book: &Book, tenant: TenantId, ext: ExtNo) -> Plan
         requires open { IsOpen self.old }
@@ -203,21 +242,8 @@ impl Session {
         ensures { (journal : List Entry) → StandsFor book.now journal
             → Planned self.old self.new book.now book.now journal (request.TextOf ext) result }
     {
-        let told = match book.ext(tenant, ext) {
-            Ok(Some(ext)) => match Blob::of(self.alloc, ext.text()) {
-                Ok(text) => TextAnswer::Text(text),
-                Err(Memory) => TextAnswer::Memory,
-            },
-            Ok(None) => {
-                let at = book.len();
-                self.show(at);
-                TextAnswer::NoExtension {
-                    count: book.ext_count(tenant),
-                    at,
-                }
-            }
-            Err(Memory) => TextAnswer::Memory,
-        };
+        let told = self.text(book, tenant, ext);
+        self.show_text(&told);
         Plan::Send(Answer::Text(told))
     }
 

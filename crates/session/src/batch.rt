@@ -65,7 +65,7 @@ fn is_bad_budget(budget: u32) -> bool
 }
 
 /// Begins a call, behind those of the earlier callers, or tells why not.
-fn start(
+fn begin_one(
     session: &Session,
     book: &Book,
     tenant: TenantId,
@@ -124,7 +124,7 @@ pub fn start_all(
     for asked in calls.into_vec() {
         let place = items.len() as u16;
         let caller = asked.caller;
-        match start(session, book, tenant, callers.as_slice(), asked) {
+        match begin_one(session, book, tenant, callers.as_slice(), asked) {
             Start::Refused(item) => items.push(item)?,
             Start::Began(task) => {
                 items.push(Item::Memory)?;

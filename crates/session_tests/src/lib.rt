@@ -1,0 +1,5 @@
+//! Tests of sessions by their frames.
+#![tactic(auto)]
+
+#[cfg(test)]
+mod tests;
