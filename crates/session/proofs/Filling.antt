@@ -2,7 +2,7 @@
 use Rattle.std.specs.Prelude.{slice_get, slice_set}
 use Rattle.std.specs.List.{AllByRecursion}
 use Rattle.std.proofs.Common.{◌≡◌, ◌≤◌, ◌<◌, ◌^◌, ◌⊎◌, ℕ, zero, suc, List, [], ◌∷◌, ◌++◌, length, take, Some, refl, sym, subst, ap, ◌∙◌, inl, inr, arith, length-append}
-use Rattle.std.proofs.Math.ListN.{length-set}
+use Rattle.std.proofs.lemmas.List.{length-set}
 use Rattle.sp_base.specs.declared.calls.Asked.{Asked}
 use Rattle.sp_base.specs.declared.numbers.TenantId.{TenantId}
 use Rattle.journal.specs.declared.entry.Entry.{Entry}

@@ -24,7 +24,7 @@ use Rattle.book.specs.declared.answers.Commit.TheVariants as commit
 use Rattle.book.specs.declared.ends.End.{End}
 use Rattle.book.specs.declared.ends.End.TheVariants as ended
 use Rattle.book.specs.Ends.{IsSettled, ItemHolds}
-use Rattle.book.specs.Verdict.{is_full, moved, verdict, verdict_on}
+use Rattle.book.specs.Verdict.{entry_of, is_full, moved, verdict_on}
 use Rattle.wire.specs.declared.items.Item.{Item}
 use Rattle.wire.specs.declared.items.Item.TheVariants as item
 use Rattle.session.specs.Batches as batches
@@ -93,13 +93,13 @@ no-conflict : (full : Bool) (now : ℕ) (outcome : Outcome) (table : TableId) (k
 no-conflict true now outcome table key read read_at now_is now_at is = (cc)
 no-conflict false now outcome table key read read_at now_is now_at is = (cc)
 
-conflict-by : (limit : ℕ) (before : List Entry) (own : Entry) (outcome : Outcome) (stale full : Bool) (last : ℕ) (found : Option ReadItem)
+conflict-by : (limit : ℕ) (before : List Entry) (own : Entry) (outcome : Outcome) (stale : Bool) (last : ℕ) (found : Option ReadItem)
     (table : TableId) (key : List ℕ) (read read_at now now_at : ℕ)
     → commit.Conflict table key read read_at now now_at ≡ (if stale then commit.Stale last (length before) else verdict_on limit before own outcome found)
     → (first : ReadItem) × (found ≡ Some first) × (read_at ≡ first.read_at)
-conflict-by limit before own outcome true full last found table key read read_at now now_at is = absurd cc
-conflict-by limit before own outcome false full last (Some first) table key read read_at now now_at is = (first, refl, cc)
-conflict-by limit before own outcome false full last None table key read read_at now now_at is =
+conflict-by limit before own outcome true last found table key read read_at now now_at is = absurd cc
+conflict-by limit before own outcome false last (Some first) table key read read_at now now_at is = (first, refl, cc)
+conflict-by limit before own outcome false last None table key read read_at now now_at is =
     absurd (no-conflict (is_full limit before own) (length before) outcome table key read read_at now now_at is)
 
 committed-where : (full : Bool) (now : ℕ) (ended_so : Outcome) (n : ℕ) (outcome : Outcome)
@@ -129,7 +129,7 @@ settled-sound grants limit journal since call (commit.Committed n outcome) is =
     let there : n < length journal = slice_get_within journal n _ is.judged.stands in
     let judged = is.judged in
     let small = within-limits judged.program call.args call.budget (part judged.reads (granted grants (take n journal) call.caller.tenant)) in
-    let same = committed-by limit (take n journal) _ judged.outcome (nat_le call.number.0 (last_of (take n journal) call.caller))
+    let same = committed-by limit (take n journal) (entry_of call judged.outcome judged.writes judged.reads) judged.outcome (nat_le call.number.0 (last_of (take n journal) call.caller))
     (last_of (take n journal) call.caller) (moved (take n journal) judged.reads) n outcome judged.told in
     record {
       seen = λ seen by. omega (arith, by, there);
@@ -142,7 +142,7 @@ settled-sound grants limit journal since call (commit.Stale last at) is =
 settled-sound grants limit journal since call (commit.Conflict table key read read_at now now_at) is =
     let by_now : now_at ≤ length journal = is.shown.by_now in
     let before : List Entry = take now_at journal in
-    let found = conflict-by limit before _ is.judged.outcome (nat_le call.number.0 (last_of before call.caller)) true
+    let found = conflict-by limit before (entry_of call is.judged.outcome is.judged.writes is.judged.reads) is.judged.outcome (nat_le call.number.0 (last_of before call.caller))
     (last_of before call.caller) (moved before is.judged.reads) table key read read_at now now_at is.judged.told in
     let held : found.0.read_at ≤ length before = moved-held before is.judged.reads found.0 found.1 is.judged.are.held in
     let short : length before ≤ length journal = omega (arith, length-take now_at journal) in

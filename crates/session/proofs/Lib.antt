@@ -5,3 +5,6 @@ pub mod Putting
 pub mod Telling
 pub mod Items
 pub mod Filling
+pub mod Asking
+pub mod Starting
+pub mod Batching

@@ -181,14 +181,14 @@ fetch-longer : (terms : Terms) (tenant : TenantId) (journal later : List Entry) 
     → IsFetchAnswer terms tenant journal state caller number table key given left
     → IsFetchAnswer terms tenant (journal ++ later) state caller number table key given left
 fetch-longer terms tenant journal later state caller number table key given left (steps.not_fetched l gone) = steps.not_fetched l gone
-fetch-longer terms tenant journal later state caller number table key given left (steps.again kept read call is) = steps.again kept read call is
-fetch-longer terms tenant journal later state caller number table key given left (steps.found kept moment read new shown readable few is) =
-    steps.found kept moment read new (shown-longer journal later state.seen moment shown) readable few
+fetch-longer terms tenant journal later state caller number table key given left (steps.fetched_again kept read call is) = steps.fetched_again kept read call is
+fetch-longer terms tenant journal later state caller number table key given left (steps.fetched_now kept moment read new shown readable few is) =
+    steps.fetched_now kept moment read new (shown-longer journal later state.seen moment shown) readable few
     (moved (λ (before : List Entry). read ≡ item_at before table key) journal later moment shown.by_now is)
-fetch-longer terms tenant journal later state caller number table key given left (steps.denied kept moment new shown no) =
-    steps.denied kept moment new (shown-longer journal later state.seen moment shown) no
-fetch-longer terms tenant journal later state caller number table key given left (steps.many kept moment new shown readable full) =
-    steps.many kept moment new (shown-longer journal later state.seen moment shown) readable full
+fetch-longer terms tenant journal later state caller number table key given left (steps.fetch_denied kept moment new shown no) =
+    steps.fetch_denied kept moment new (shown-longer journal later state.seen moment shown) no
+fetch-longer terms tenant journal later state caller number table key given left (steps.fetch_many kept moment new shown readable full) =
+    steps.fetch_many kept moment new (shown-longer journal later state.seen moment shown) readable full
 fetch-longer terms tenant journal later state caller number table key given left steps.no_fetch_memory = steps.no_fetch_memory
 
 sent-longer : (terms : Terms) (journal later : List Entry) (seen : ℕ) (kept : Kept) (outcome : Outcome) (writes : List Write) (given : Commit)

@@ -11,6 +11,7 @@ use Rattle.book.specs.declared.ends.CallEnd.{CallEnd}
 use Rattle.book.specs.Ends.{NamesExt}
 use Rattle.book.specs.Standing.{BookValue}
 use Rattle.wire.specs.declared.items.Item.{Item}
+use Rattle.wire.specs.declared.items.Item.TheVariants as item
 use Rattle.session.specs.declared.batch.Start.{Start}
 use Rattle.session.specs.declared.batch.Start.TheVariants as start
 use Rattle.session.specs.declared.plan.Begun.{Begun}
@@ -38,6 +39,16 @@ pub record IsBegun (session : Session) (book : BookValue) (journal : List Entry)
 abbrev pub Starts : Session → BookValue → List Entry → TenantId → List Asked → Asked → Start → Type 0
 Starts session book journal tenant earlier asked (start.Refused given) = IsRefused session book journal tenant earlier asked given
 Starts session book journal tenant earlier asked (start.Began task) = IsBegun session book journal tenant earlier asked task
+
+-- the item of a call so far: its refusal, or want of memory in the place of its end
+abbrev pub item_so_far : Start → Item
+item_so_far (start.Refused given) = given
+item_so_far (start.Began task) = item.Memory
+
+-- those that began, with one more where the call at this place did
+abbrev pub begun_with : List Begun → ℕ → Start → List Begun
+begun_with begun_calls place (start.Refused given) = begun_calls
+begun_with begun_calls place (start.Began task) = begun_calls ++ record { place = place; task = task } ∷ []
 
 -- each call has its item so far, a refusal, and those that began are tasks
 pub record AllStart (session : Session) (book : BookValue) (journal : List Entry) (tenant : TenantId) (calls : List Asked) (items : List Item) (begun_calls : List Begun) : Type 0 where

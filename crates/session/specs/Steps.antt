@@ -160,18 +160,18 @@ pub record IsNewRead (state : State) (caller number : ℕ) (table : TableId) (ke
 pub data IsFetchAnswer (terms : Terms) (tenant : TenantId) (journal : List Entry) (state : State) (caller number : ℕ) (table : TableId) (key : List ℕ) : FetchAnswer → List Kept → Type 0 where
   not_fetched : (left : List Kept) → IsGone state caller number left
       → IsFetchAnswer terms tenant journal state caller number table key fetched.NotParked left
-  again : (kept : Kept) (read : ReadItem) → IsKept state caller number kept
+  fetched_again : (kept : Kept) (read : ReadItem) → IsKept state caller number kept
       → read_of kept.parked.reads (place_in table key) ≡ Some read
       → IsFetchAnswer terms tenant journal state caller number table key (fetched.Found read.version read.read_at read.value) state.kept
-  found : (kept : Kept) (moment : ℕ) (read : ReadItem) → IsNewRead state caller number table key kept
+  fetched_now : (kept : Kept) (moment : ℕ) (read : ReadItem) → IsNewRead state caller number table key kept
       → IsShown journal state.seen moment → IsTrue (can_read (granted terms.grants (take moment journal) tenant) table.0)
       → length kept.parked.reads < kept.parked.call.budget / 16 → read ≡ item_at (take moment journal) table key
       → IsFetchAnswer terms tenant journal state caller number table key (fetched.Found read.version read.read_at read.value)
       (with_call state.kept caller (with_read kept read))
-  denied : (kept : Kept) (moment : ℕ) → IsNewRead state caller number table key kept
+  fetch_denied : (kept : Kept) (moment : ℕ) → IsNewRead state caller number table key kept
       → IsShown journal state.seen moment → can_read (granted terms.grants (take moment journal) tenant) table.0 ≡ false
       → IsFetchAnswer terms tenant journal state caller number table key fetched.Denied state.kept
-  many : (kept : Kept) (moment : ℕ) → IsNewRead state caller number table key kept
+  fetch_many : (kept : Kept) (moment : ℕ) → IsNewRead state caller number table key kept
       → IsShown journal state.seen moment → IsTrue (can_read (granted terms.grants (take moment journal) tenant) table.0)
       → length kept.parked.reads ≡ kept.parked.call.budget / 16
       → IsFetchAnswer terms tenant journal state caller number table key fetched.Many state.kept

@@ -271,8 +271,8 @@ impl Session {
     /// Tells the items of a batch, and notes what they show.
     pub(crate) fn tell_items(&mut self, items: Vec<Item>) -> Answer
         ensures told { result ≡ Answer.Answers items.items }
-        ensures shown { AllCounted items.items
-            → self.new ≡ record self.old { seen = seen_in_items self.old.seen items.items } }
+        ensures kept { self.new ≡ record self.old { seen = self.new.seen } }
+        ensures shown { AllCounted items.items → self.new.seen ≡ seen_in_items self.old.seen items.items }
     {
         self.seen = seen_in_items(self.seen, items.as_slice());
         Answer::Answers {

@@ -1,13 +1,13 @@
 //! The calls of a batch before their first turn, and behind their last.
 
-ghost use Rattle.std.specs.Prelude.{◌≡◌, ◌≤◌, IfOk, List, length, map, slice_set};
+ghost use Rattle.std.specs.Prelude.{◌≡◌, ◌≤◌, ◌<◌, ◌++◌, ◌∷◌, [], IfOk, OnOk, List, length, map, slice_set};
 ghost use Rattle.std.specs.List.{AllByRecursion};
 ghost use Rattle.sp_base.specs.declared.calls.Asked.{Asked};
 ghost use Rattle.sp_base.specs.Limits.{IsArguments};
 ghost use Rattle.journal.specs.declared.entry.Entry.{Entry};
 ghost use Rattle.book.specs.Standing.{StandsFor};
 ghost use Rattle.session.specs.Batches.{call_of, is_bad_budget};
-ghost use Rattle.session.specs.Starting.{AllStart, Starts, caller_of, filled};
+ghost use Rattle.session.specs.Starting.{AllStart, Starts, begun_with, caller_of, filled, item_so_far};
 ghost use Rattle.session.specs.Standing.{Fits, tenant_of};
 
 use crate::plan::Begun;
@@ -104,6 +104,28 @@ fn begin_one(
     }
 }
 
+impl Started {
+    /// What became of the next call, which has this caller.
+    fn add(&mut self, start: Start) -> Result<(), Memory>
+        requires { length self.old.items.items < 65536 }
+        ensures items { OnOk result (self.new.items.items ≡ self.old.items.items ++ item_so_far start ∷ []) }
+        ensures begun { OnOk result (self.new.begun.items ≡ begun_with self.old.begun.items (length self.old.items.items) start) }
+    {
+        match start {
+            Start::Refused(item) => {
+                self.items.push(item)?;
+                Ok(())
+            }
+            Start::Began(task) => {
+                let place = self.items.len() as u16;
+                self.items.push(Item::Memory)?;
+                self.begun.push(Begun { place, task })?;
+                Ok(())
+            }
+        }
+    }
+}
+
 /// Begins the calls of a batch in order. One that began has want of memory as its item, until its end comes.
 pub fn start_all(
     session: &Session,
@@ -119,21 +141,17 @@ pub fn start_all(
         → AllStart session.now book.now journal tenant calls started.items.items started.begun.items) }
 {
     let mut callers = Vec::new(session.alloc);
-    let mut items = Vec::new(session.alloc);
-    let mut begun = Vec::new(session.alloc);
+    let mut started = Started {
+        items: Vec::new(session.alloc),
+        begun: Vec::new(session.alloc),
+    };
     for asked in calls.into_vec() {
-        let place = items.len() as u16;
         let caller = asked.caller;
-        match begin_one(session, book, tenant, callers.as_slice(), asked) {
-            Start::Refused(item) => items.push(item)?,
-            Start::Began(task) => {
-                items.push(Item::Memory)?;
-                begun.push(Begun { place, task })?;
-            }
-        }
+        let start = begin_one(session, book, tenant, callers.as_slice(), asked);
+        started.add(start)?;
         callers.push(caller)?;
     }
-    Ok(Started { items, begun })
+    Ok(started)
 }
 
 /// Sets the item of the call at a place.
