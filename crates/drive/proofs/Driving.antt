@@ -4,7 +4,7 @@ use Rattle.std.specs.List.{AllByRecursion, flat_map}
 use Rattle.std.proofs.Common.{◌≡◌, ◌≤◌, ◌+◌, ℕ, List, [], ◌∷◌, ◌++◌, length, Option, Some, None, refl, sym, subst, ap, ◌∙◌, arith, length-append, append-nil, append_assoc}
 use Rattle.sp_base.specs.Spelling.{frame}
 use Rattle.journal.specs.declared.entry.Entry.{Entry}
-use Rattle.wire.specs.Answers as spelled
+use Rattle.wire.specs.Answers as spelling
 use Rattle.wire.specs.declared.answers.Answer.{Answer}
 use Rattle.wire.specs.declared.answers.Answer.TheVariants as answer
 use Rattle.wire.specs.declared.requests.Request.{Request}
@@ -36,11 +36,11 @@ answered-longer terms journal later first bodies answers last (hearing.one_more 
     (is-answered-longer terms journal later state body given next one) on
 
 -- the frames of some answers, and of one more
-pub frames-more : (answers : List Answer) (given : Answer) → frames_of (answers ++ given ∷ []) ≡ frames_of answers ++ frame (spelled.answer given)
-frames-more [] given = append-nil (frame (spelled.answer given))
+pub frames-more : (answers : List Answer) (given : Answer) → frames_of (answers ++ given ∷ []) ≡ frames_of answers ++ frame (spelling.answer given)
+frames-more [] given = append-nil (frame (spelling.answer given))
 frames-more (one ∷ answers) given =
-    ap (λ (rest : List ℕ). frame (spelled.answer one) ++ rest) (frames-more answers given)
-    ∙ sym (append_assoc (frame (spelled.answer one)) (frames_of answers) (frame (spelled.answer given)))
+    ap (λ (rest : List ℕ). frame (spelling.answer one) ++ rest) (frames-more answers given)
+    ∙ sym (append_assoc (frame (spelling.answer one)) (frames_of answers) (frame (spelling.answer given)))
 
 -- ---- Replies
 

@@ -10,7 +10,7 @@ use Rattle.sp_base.specs.declared.rights.Level.{Level}
 use Rattle.sp_base.specs.Spelling as spelling
 use Rattle.sp_base.specs.Spelling.{FitsOutcome, FitRights, u16, u32, u64}
 use Rattle.rw_set.specs.Weight.{weight_of, weight_of_read}
-use Rattle.wire.specs.Answers as spelled
+use Rattle.wire.specs.Answers as answers
 use Rattle.wire.specs.Answers.{FitItems, FitsAnswer, FitsBatchItem, FitsItem}
 use Rattle.wire.specs.declared.answers.Answer.{Answer}
 use Rattle.wire.specs.declared.answers.Answer.TheVariants as answer
@@ -62,7 +62,7 @@ reads-length [] = refl
 reads-length (read ∷ reads) =
     omega (arith, length-append (spelling.read read) (flat_map spelling.read reads), sum_by-cons weight_of_read read reads, reads-length reads)
 
-item-short : (given : Item) → IsItemWithin given → FitsItem given → length (spelled.item given) ≤ 66000
+item-short : (given : Item) → IsItemWithin given → FitsItem given → length (answers.item given) ≤ 66000
 item-short (item.Committed n outcome) within fits =
     let short = outcome-short outcome fits.1 in omega (arith, front-u64 n (spelling.outcome outcome), short)
 item-short (item.Stale last at) within fits = omega (arith, front-u64 last (u64 at), length-u64 at)
@@ -101,14 +101,14 @@ item-short item.Lied within fits = absurd within
 item-short item.NotParked within fits = absurd within
 
 items-short : (items : List Item) → AllByRecursion IsItemWithin items → AllByRecursion FitsBatchItem items
-    → length (flat_map spelled.item items) ≤ 66000 * length items
+    → length (flat_map answers.item items) ≤ 66000 * length items
 items-short [] within fits = omega arith
 items-short (given ∷ items) within fits =
     let one = item-short given within.0 fits.0.1 in
     let rest = items-short items within.1 fits.1 in
-    omega (arith, length-append (spelled.item given) (flat_map spelled.item items), one, rest)
+    omega (arith, length-append (answers.item given) (flat_map answers.item items), one, rest)
 
-parked-short : (given : Item) → FitsItem given → spelled.EndsParked given → length (spelled.item given) ≤ 66000
+parked-short : (given : Item) → FitsItem given → answers.EndsParked given → length (answers.item given) ≤ 66000
 parked-short (item.Committed n outcome) fits ends =
     let short = outcome-short outcome fits.1 in omega (arith, front-u64 n (spelling.outcome outcome), short)
 parked-short (item.Stale last at) fits ends = omega (arith, front-u64 last (u64 at), length-u64 at)
@@ -152,7 +152,7 @@ opt-short None fits = omega arith
 opt-short (Some value) fits = let short : length value ≤ 4096 = fits in omega (arith, long-length value, short)
 
 -- an answer within its limits is short enough for a frame
-pub answer-short : (given : Answer) → IsWithin given → FitsAnswer given → length (spelled.answer given) ≤ 8388608
+pub answer-short : (given : Answer) → IsWithin given → FitsAnswer given → length (answers.answer given) ≤ 8388608
 answer-short (answer.Welcome rights at) within fits =
     let few : length rights ≤ 64 = fits.0.rights.few in
     omega (arith, length-append (spelling.rights rights) (u64 at), rights-length rights, length-u64 at, few)
@@ -163,7 +163,7 @@ answer-short (answer.Installed installed.Memory) within fits = omega arith
 answer-short (answer.Answers items) within fits =
     let short = items-short items within.each fits.each in
     let few = fits.few in
-    omega (arith, front-u16 (length items) (flat_map spelled.item items), short, few)
+    omega (arith, front-u16 (length items) (flat_map answers.item items), short, few)
 answer-short (answer.Fetched (fetched.Found version read_at value)) within fits =
     let short = opt-short value fits.1.1 in
     omega (arith, front-u64 version (u64 read_at ++ spelling.opt value), front-u64 read_at (spelling.opt value), short)

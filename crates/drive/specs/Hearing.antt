@@ -4,9 +4,9 @@ use Rattle.std.specs.List.{flat_map}
 use Rattle.sp_base.specs.Spelling.{frame}
 use Rattle.journal.specs.declared.entry.Entry.{Entry}
 use Rattle.book.specs.Standing.{BookValue, StandsFor}
-use Rattle.framing.specs.Framing as framed
+use Rattle.framing.specs.Framing as streams
 use Rattle.framing.specs.Framing.{Framing}
-use Rattle.wire.specs.Answers as spelled
+use Rattle.wire.specs.Answers as spelling
 use Rattle.wire.specs.Requests.{SpellsRequest}
 use Rattle.wire.specs.declared.answers.Answer.{Answer}
 use Rattle.wire.specs.declared.answers.Answer.TheVariants as answer
@@ -81,12 +81,12 @@ pub data Heard (terms : Terms) (journal : List Entry) (first : State) (bodies : 
 
 -- the frames of some answers, one after another
 abbrev pub frames_of : List Answer → List ℕ
-frames_of answers = flat_map (λ given. frame (spelled.answer given)) answers
+frames_of answers = flat_map (λ given. frame (spelling.answer given)) answers
 
 -- The session may be driven over the book: it has not ended, it fits each journal for which the book stands, and both are
 -- audited or both are not.
 pub record MayBeDriven (session : Session) (book : BookValue) : Type 0 where
-  pub open : IsOpen session
+  pub ready : IsOpen session
   pub fits : (journal : List Entry) → StandsFor book journal → Fits session journal book.grants
   pub audit : session.conf.audit ≡ book.audit
 
@@ -104,8 +104,8 @@ pub record Drives (old new : Session) (before after : BookValue) (piece : List �
   pub later : List Entry
   pub stands : StandsFor after (journal ++ later)
   pub bodies : List (List ℕ)
-  pub framed : (fed : List ℕ) (given : List (List ℕ)) → framed.Stands framer fed given
-      → framed.Stands then_framer (fed ++ piece) (given ++ bodies)
+  pub framed : (fed : List ℕ) (given : List (List ℕ)) → streams.Stands framer fed given
+      → streams.Stands then_framer (fed ++ piece) (given ++ bodies)
   pub answered : (state : State) → Stands old state
       → Leads (terms_over old before) (journal ++ later) state bodies then_framer.broken new driven
 

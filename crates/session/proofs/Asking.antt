@@ -1,5 +1,5 @@
 -- Requests that are answered without the book, and those whose calls are not parked.
-use Rattle.std.specs.Prelude.{◌==◌, Bool, true, false, IsTrue, is_none, if◌then◌else◌}
+use Rattle.std.specs.Prelude.{◌==◌, not, Bool, true, false, IsTrue, is_some, if◌then◌else◌}
 use Rattle.std.proofs.Common.{◌≡◌, ◌≤◌, ℕ, List, [], ◌∷◌, ◌++◌, length, Option, Some, None, refl, sym, subst, ap, ◌∙◌, arith, eq-eqb, length-append, append-nil}
 use Rattle.std.proofs.lemmas.Bool.{eqb-true}
 use Rattle.sp_base.specs.declared.numbers.TableId.{TableId}
@@ -39,20 +39,37 @@ use Rattle.session.proofs.LongerSteps.{rights-longer}
 
 -- ---- Tenants
 
-pub admitted-some : (own : Option Admitted) → is_none own ≡ false → (tenant : TenantId) × (tenant_of own ≡ Some tenant)
+pub admitted-some : (own : Option Admitted) → is_some own ≡ true → (tenant : TenantId) × (tenant_of own ≡ Some tenant)
 admitted-some None is = absurd cc
 admitted-some (Some admitted) is = (admitted.tenant, refl)
 
-pub admitted-none : (own : Option Admitted) → is_none own ≡ true → own ≡ None
+pub admitted-none : (own : Option Admitted) → is_some own ≡ false → tenant_of own ≡ None
 admitted-none None is = refl
 admitted-none (Some admitted) is = absurd cc
 
 -- a request that is no Hello is out of turn where no tenant was admitted
-pub out-of-turn : (old : Session) (state : State) (message : Request) → Stands old state → old.admitted ≡ None → is_hello message ≡ false
+pub out-of-turn : (old : Session) (state : State) (message : Request) → Stands old state → tenant_of old.admitted ≡ None → is_hello message ≡ false
     → is_in_turn state.tenant message ≡ false
 out-of-turn old state message stands none is =
-    let first : state.tenant ≡ None = stands.tenant ∙ ap tenant_of none in
+    let first : state.tenant ≡ None = stands.tenant ∙ none in
     subst (λ (tenant : Option TenantId). is_in_turn tenant message ≡ false) (sym first) is
+
+-- and a later Hello is out of turn
+pub later-hello : (old : Session) (state : State) (message : Request) (tenant : TenantId) → Stands old state → tenant_of old.admitted ≡ Some tenant
+    → is_hello message ≡ true → is_in_turn state.tenant message ≡ false
+later-hello old state message tenant stands admitted is =
+    let later : state.tenant ≡ Some tenant = stands.tenant ∙ admitted in
+    subst (λ (own : Option TenantId). is_in_turn own message ≡ false) (sym later) (ap not is)
+
+pub no-hello : (message : Request) → ((tenant : TenantId) (secret : ℕ) → message ≡ request.Hello tenant secret → ⊥) → is_hello message ≡ false
+no-hello (request.Hello tenant secret) other = absurd (other tenant secret refl)
+no-hello (request.Install text) other = refl
+no-hello (request.Batch calls) other = refl
+no-hello (request.Fetch caller number table key) other = refl
+no-hello (request.Finish caller number outcome writes) other = refl
+no-hello (request.Put table key value) other = refl
+no-hello (request.TextOf ext) other = refl
+no-hello request.Bye other = refl
 
 -- ---- Faults
 
@@ -64,7 +81,7 @@ fault-in fault.WrongKey = record { low = omega arith; high = omega arith }
 fault-in fault.Memory = record { low = omega arith; high = omega arith }
 
 -- what is refused by a fault ends the session
-pub refused-by-fault : (old new : Session) (message : Request) → old.admitted ≡ None → is_hello message ≡ false
+pub refused-by-fault : (old new : Session) (message : Request) → tenant_of old.admitted ≡ None → is_hello message ≡ false
     → new ≡ record old { phase = phase.Ended } → Refused old new message (faulted fault.OutOfTurn)
 refused-by-fault old new message none is new_is =
     let own : new.admitted ≡ old.admitted = ap (λ (s : Session). s.admitted) new_is in
@@ -107,13 +124,13 @@ number-in (refusal.Borrows borrows.MoveAndBorrow) = record { low = omega arith; 
 pub refused-text : (old : Session) (tenant : TenantId) (text : List ℕ) (line : ℕ) (why : Refusal) → IsOpen old
     → tenant_of old.admitted ≡ Some tenant → IsRefused text line why
     → Refused old old (request.Install text) (answer.Installed (installed.Rejected line (refusal_number why)))
-refused-text old tenant text line why open admitted is = record {
+refused-text old tenant text line why ready admitted is = record {
   explained = λ grants limit journal fits state was. record {
     next = state;
     step = steps.refuses tenant text line why (was.tenant ∙ admitted) is;
     stands = was;
   };
-  ends = open;
+  ends = ready;
   fits = λ journal grants fits. fits;
   within = number-in why;
   conf = refl;
@@ -121,13 +138,13 @@ refused-text old tenant text line why open admitted is = record {
 
 pub refused-memory : (old : Session) (tenant : TenantId) (text : List ℕ) → IsOpen old
     → tenant_of old.admitted ≡ Some tenant → Refused old old (request.Install text) (answer.Installed installed.Memory)
-refused-memory old tenant text open admitted = record {
+refused-memory old tenant text ready admitted = record {
   explained = λ grants limit journal fits state was. record {
     next = state;
     step = steps.installs_nothing tenant text (was.tenant ∙ admitted);
     stands = was;
   };
-  ends = open;
+  ends = ready;
   fits = λ journal grants fits. fits;
   within = tt;
   conf = refl;
@@ -204,7 +221,7 @@ is-lost state caller number are = lost-by state caller number (kept_of state.kep
 pub finish-refused : (old : Session) (tenant : TenantId) (caller number : ℕ) (outcome : Outcome) (writes : List Write) → IsOpen old
     → tenant_of old.admitted ≡ Some tenant
     → Refused old old (request.Finish caller (record { 0 = number }) outcome writes) (answer.Finished item.NotParked)
-finish-refused old tenant caller number outcome writes open admitted = record {
+finish-refused old tenant caller number outcome writes ready admitted = record {
   explained = λ grants limit journal fits state was.
       let lost = is-lost state caller number was.kept in
       record {
@@ -212,7 +229,7 @@ finish-refused old tenant caller number outcome writes open admitted = record {
         step = steps.finishes tenant caller number outcome writes item.NotParked lost.left (was.tenant ∙ admitted) (steps.not_finished lost.left lost.gone);
         stands = record { tenant = was.tenant; seen = was.seen; kept = lost.kept_so };
       };
-  ends = open;
+  ends = ready;
   fits = λ journal grants fits. fits;
   within = tt;
   conf = refl;
@@ -221,9 +238,9 @@ finish-refused old tenant caller number outcome writes open admitted = record {
 pub fetch-planned : (old : Session) (book : BookValue) (journal : List Entry) (tenant : TenantId) (caller number : ℕ) (table : TableId) (key : List ℕ)
     → IsOpen old → Fits old journal book.grants → tenant_of old.admitted ≡ Some tenant → StandsFor book journal
     → Planned old old book book journal (request.Fetch caller (record { 0 = number }) table key) (plan.Send (answer.Fetched fetched.NotParked))
-fetch-planned old book journal tenant caller number table key open fits admitted stands =
+fetch-planned old book journal tenant caller number table key ready fits admitted stands =
     sends old old book book journal [] (request.Fetch caller (record { 0 = number }) table key) (answer.Fetched fetched.NotParked)
-    (stands-nil book journal stands) (stays-fixed book) refl fits refl refl (omega (arith, fits.seen, length-append journal [])) open open tt
+    (stands-nil book journal stands) (stays-fixed book) refl fits refl refl (omega (arith, fits.seen, length-append journal [])) ready ready tt
     (λ state was.
     let lost = is-lost state caller number was.kept in
     record {

@@ -40,14 +40,14 @@ pub batch-sent : (old new : Session) (book : BookValue) (journal : List Entry) (
     → AllStart old book journal tenant calls items begun_calls → new ≡ record old { seen = new.seen }
     → (AllCounted items → new.seen ≡ seen_in_items old.seen items)
     → Planned old new book book journal (request.Batch calls) (plan.Send (answer.Answers items))
-batch-sent old new book journal tenant calls items begun_calls open fits admitted stands fit all new_is shown =
+batch-sent old new book journal tenant calls items begun_calls ready fits admitted stands fit all new_is shown =
     let small : length journal < 2 ^ 64 = small-journal book journal stands in
     let longer : length (journal ++ []) ≡ length journal + 0 = length-append journal [] in
-    let opened : IsOpen new = ap (λ (s : Session). s.phase) new_is ∙ open in
+    let opened : IsOpen new = ap (λ (s : Session). s.phase) new_is ∙ ready in
     let own : new.admitted ≡ old.admitted = ap (λ (s : Session). s.admitted) new_is in
     let told = batch-told old new (terms_over old book) (journal ++ []) tenant calls items admitted (omega (arith, small, longer))
     (omega (arith, fits.seen, longer)) fit.some fit.few
-    (λ state was. items-longer (terms_over old book) tenant journal [] state calls items (all.items state was))
+    (λ state was. items-longer (terms_over old book) tenant journal [] state calls items (all.each state was))
     (all-map IsRefusal IsHere items refusal-here all.refusals) own opened shown in
     sends old new book book journal [] (request.Batch calls) (answer.Answers items) (stands-nil book journal stands) (stays-fixed book) refl fits own
     (ap (λ (s : Session). s.conf) new_is) told.seen opened opened told.sends.within told.sends.explained
@@ -98,11 +98,11 @@ batch-runs old new book journal tenant calls items begun_calls fits admitted sta
           few = fit.few;
           refusals = all.refusals;
           each = λ state was. items-longer (terms_over old book) tenant journal [] state calls items.items
-              (all.items state (stands-still new old state was (sym own) (sym seen)));
+              (all.each state (stands-still new old state was (sym own) (sym seen)));
         };
         some = some;
         each = all-map (HasBegun old book.grants journal calls) (HasBegun new book.grants (journal ++ []) calls) begun_calls.items
-            (λ one has. names-ext-nil journal calls one old new book.grants own seen has) all.begun_calls;
+            (λ one has. names-ext-nil journal calls one old new book.grants own seen has) all.have_begun;
         still = λ state was. stands-still old new state was own seen;
       };
     }

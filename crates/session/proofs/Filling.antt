@@ -107,7 +107,7 @@ pub batch-told : (old new : Session) (terms : Terms) (journal : List Entry) (ten
     → ((state : State) → Stands old state → AreItems terms tenant journal state calls items) → AllByRecursion IsHere items
     → new.admitted ≡ old.admitted → IsOpen new → (AllCounted items → new.seen ≡ seen_in_items old.seen items)
     → Told old new terms journal calls items
-batch-told old new terms journal tenant calls items admitted short by some few are here own open shown =
+batch-told old new terms journal tenant calls items admitted short by some few are here own ready shown =
     let there : AreItems terms tenant journal (record { tenant = tenant_of old.admitted; kept = []; seen = old.seen }) calls items =
     are (record { tenant = tenant_of old.admitted; kept = []; seen = old.seen }) (stands-there old) in
     let sound = items-sound terms tenant journal (record { tenant = tenant_of old.admitted; kept = []; seen = old.seen }) calls items here there in
@@ -126,7 +126,7 @@ batch-told old new terms journal tenant calls items admitted short by some few a
                 kept = left.kept_so;
               };
             };
-        ends = open;
+        ends = ready;
         within = record {
           some = omega (arith, some, there.many);
           few = omega (arith, few, there.many);

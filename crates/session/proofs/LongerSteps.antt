@@ -185,8 +185,8 @@ fetch-longer terms tenant journal later state caller number table key given left
 fetch-longer terms tenant journal later state caller number table key given left (steps.fetched_now kept moment read new shown readable few is) =
     steps.fetched_now kept moment read new (shown-longer journal later state.seen moment shown) readable few
     (moved (λ (before : List Entry). read ≡ item_at before table key) journal later moment shown.by_now is)
-fetch-longer terms tenant journal later state caller number table key given left (steps.fetch_denied kept moment new shown no) =
-    steps.fetch_denied kept moment new (shown-longer journal later state.seen moment shown) no
+fetch-longer terms tenant journal later state caller number table key given left (steps.fetch_denied kept moment new shown closed) =
+    steps.fetch_denied kept moment new (shown-longer journal later state.seen moment shown) closed
 fetch-longer terms tenant journal later state caller number table key given left (steps.fetch_many kept moment new shown readable full) =
     steps.fetch_many kept moment new (shown-longer journal later state.seen moment shown) readable full
 fetch-longer terms tenant journal later state caller number table key given left steps.no_fetch_memory = steps.no_fetch_memory

@@ -71,13 +71,13 @@ pub sends : (old new : Session) (before after : BookValue) (journal later : List
     → Fits old journal before.grants → new.admitted ≡ old.admitted → new.conf ≡ old.conf → new.seen ≤ length (journal ++ later)
     → IsOpen new → EndsBy given new → IsWithin given → Explains (terms_over old before) (journal ++ later) old new message given
     → Planned old new before after journal message (plan.Send given)
-sends old new before after journal later message given stands fixed adds fits own conf seen open ends within explained = record {
+sends old new before after journal later message given stands fixed adds fits own conf seen ready ends within explained = record {
   later = later;
   stands = stands;
   adds = adds;
   fits = fits-then old new before after journal later fixed fits own seen;
   conf = conf;
-  does = (record { explained = explained; ends = ends; within = within }, open);
+  does = (record { explained = explained; ends = ends; within = within }, ready);
 }
 
 -- the session ends with a fault that is a step to the same state

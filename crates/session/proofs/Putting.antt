@@ -75,7 +75,7 @@ pub put-planned : (old new : Session) (before after : BookValue) (journal : List
     → StandsFor after (after_put given journal (entry.Put tenant table key value))
     → now ≡ length (after_put given journal (entry.Put tenant table key value)) → new ≡ record old { seen = put_seen old.seen now given }
     → Planned old new before after journal (request.Put table key value) (plan.Send (answer.PutDone (put_told given)))
-put-planned old new before after journal tenant table key value (put.Done n) now open fits tenanted fixed is stands counted new_is =
+put-planned old new before after journal tenant table key value (put.Done n) now ready fits tenanted fixed is stands counted new_is =
     let own_put : Entry = entry.Put tenant table key value in
     let told = told-by (put.Done n) put.Memory (put_answer before.grants before.limit journal tenant table own_put) (λ memory. cc) is in
     let number : n ≡ length journal = put-done-is (can_write (granted before.grants journal tenant) table.0) (is_full before.limit journal own_put) n (length journal) told in
@@ -83,31 +83,31 @@ put-planned old new before after journal tenant table key value (put.Done n) now
     let seen : new.seen ≡ max old.seen (n + 1) = ap (λ (s : Session). s.seen) new_is ∙ ap (max old.seen) (counted ∙ longer ∙ ap (λ (m : ℕ). m + 1) (sym number)) in
     sends old new before after journal (own_put ∷ []) (request.Put table key value) (answer.PutDone (put_told (put.Done n)))
     stands fixed (number, refl) fits (own-of old new _ new_is) (ap (λ (s : Session). s.conf) new_is)
-    (omega (arith, seen, number, longer, fits.seen)) (ap (λ (s : Session). s.phase) new_is ∙ open) (ap (λ (s : Session). s.phase) new_is ∙ open) tt
+    (omega (arith, seen, number, longer, fits.seen)) (ap (λ (s : Session). s.phase) new_is ∙ ready) (ap (λ (s : Session). s.phase) new_is ∙ ready) tt
     (put-explained old new before journal (own_put ∷ []) tenant table key value (put.Done n) fits tenanted told
     (subst (λ (m : ℕ). slice_get (journal ++ own_put ∷ []) m ≡ Some own_put) (sym number) (slice_get-append_seam journal own_put []))
     (own-of old new _ new_is) seen)
-put-planned old new before after journal tenant table key value put.Denied now open fits tenanted fixed is stands counted new_is =
+put-planned old new before after journal tenant table key value put.Denied now ready fits tenanted fixed is stands counted new_is =
     let told = told-by put.Denied put.Memory (put_answer before.grants before.limit journal tenant table (entry.Put tenant table key value)) (λ memory. cc) is in
     let seen : new.seen ≡ old.seen = ap (λ (s : Session). s.seen) new_is in
     sends old new before after journal [] (request.Put table key value) (answer.PutDone (put_told put.Denied))
     (stands-nil after journal stands) fixed refl fits (own-of old new _ new_is) (ap (λ (s : Session). s.conf) new_is)
-    (omega (arith, seen, fits.seen, length-append journal [])) (ap (λ (s : Session). s.phase) new_is ∙ open) (ap (λ (s : Session). s.phase) new_is ∙ open) tt
+    (omega (arith, seen, fits.seen, length-append journal [])) (ap (λ (s : Session). s.phase) new_is ∙ ready) (ap (λ (s : Session). s.phase) new_is ∙ ready) tt
     (put-explained old new before journal [] tenant table key value put.Denied fits tenanted told tt (own-of old new _ new_is) seen)
-put-planned old new before after journal tenant table key value (put.Full at) now open fits tenanted fixed is stands counted new_is =
+put-planned old new before after journal tenant table key value (put.Full at) now ready fits tenanted fixed is stands counted new_is =
     let own_put : Entry = entry.Put tenant table key value in
     let told = told-by (put.Full at) put.Memory (put_answer before.grants before.limit journal tenant table own_put) (λ memory. cc) is in
     let number : at ≡ length journal = put-full-is (can_write (granted before.grants journal tenant) table.0) (is_full before.limit journal own_put) at (length journal) told in
     let seen : new.seen ≡ max old.seen at = ap (λ (s : Session). s.seen) new_is ∙ ap (max old.seen) (counted ∙ sym number) in
     sends old new before after journal [] (request.Put table key value) (answer.PutDone (put_told (put.Full at)))
     (stands-nil after journal stands) fixed refl fits (own-of old new _ new_is) (ap (λ (s : Session). s.conf) new_is)
-    (omega (arith, seen, number, fits.seen, length-append journal [])) (ap (λ (s : Session). s.phase) new_is ∙ open) (ap (λ (s : Session). s.phase) new_is ∙ open) tt
+    (omega (arith, seen, number, fits.seen, length-append journal [])) (ap (λ (s : Session). s.phase) new_is ∙ ready) (ap (λ (s : Session). s.phase) new_is ∙ ready) tt
     (put-explained old new before journal [] tenant table key value (put.Full at) fits tenanted told tt (own-of old new _ new_is) seen)
-put-planned old new before after journal tenant table key value put.Memory now open fits tenanted fixed is stands counted new_is =
+put-planned old new before after journal tenant table key value put.Memory now ready fits tenanted fixed is stands counted new_is =
     let seen : new.seen ≡ old.seen = ap (λ (s : Session). s.seen) new_is in
     sends old new before after journal [] (request.Put table key value) (answer.PutDone (put_told put.Memory))
     (stands-nil after journal stands) fixed refl fits (own-of old new _ new_is) (ap (λ (s : Session). s.conf) new_is)
-    (omega (arith, seen, fits.seen, length-append journal [])) (ap (λ (s : Session). s.phase) new_is ∙ open) (ap (λ (s : Session). s.phase) new_is ∙ open) tt
+    (omega (arith, seen, fits.seen, length-append journal [])) (ap (λ (s : Session). s.phase) new_is ∙ ready) (ap (λ (s : Session). s.phase) new_is ∙ ready) tt
     (λ state was. record {
       next = state;
       step = steps.puts_nothing tenant table key value (was.tenant ∙ tenanted);
@@ -152,7 +152,7 @@ pub install-planned : (old new : Session) (before after : BookValue) (journal : 
     → StandsFor after (after_install given journal (entry.Install tenant text))
     → now ≡ length (after_install given journal (entry.Install tenant text)) → new ≡ record old { seen = install_seen old.seen now given }
     → Planned old new before after journal (request.Install text) (plan.Send (answer.Installed (install_told given)))
-install-planned old new before after journal tenant text program (install.Installed n ext) now open fits tenanted fixed accepted is stands counted new_is =
+install-planned old new before after journal tenant text program (install.Installed n ext) now ready fits tenanted fixed accepted is stands counted new_is =
     let own_entry : Entry = entry.Install tenant text in
     let told = told-by (install.Installed n ext) install.Memory (install_answer before.limit journal tenant own_entry) (λ memory. cc) is in
     let number : n ≡ length journal = install-done-is (is_full before.limit journal own_entry) n (length journal) ext (record { 0 = length (texts_of journal tenant) }) told in
@@ -160,24 +160,24 @@ install-planned old new before after journal tenant text program (install.Instal
     let seen : new.seen ≡ max old.seen (n + 1) = ap (λ (s : Session). s.seen) new_is ∙ ap (max old.seen) (counted ∙ longer ∙ ap (λ (m : ℕ). m + 1) (sym number)) in
     sends old new before after journal (own_entry ∷ []) (request.Install text) (answer.Installed (install_told (install.Installed n ext)))
     stands fixed (number, refl) fits (own-of old new _ new_is) (ap (λ (s : Session). s.conf) new_is)
-    (omega (arith, seen, number, longer, fits.seen)) (ap (λ (s : Session). s.phase) new_is ∙ open) (ap (λ (s : Session). s.phase) new_is ∙ open) tt
+    (omega (arith, seen, number, longer, fits.seen)) (ap (λ (s : Session). s.phase) new_is ∙ ready) (ap (λ (s : Session). s.phase) new_is ∙ ready) tt
     (install-explained old new before journal (own_entry ∷ []) tenant text program (install.Installed n ext) fits tenanted accepted told
     (subst (λ (m : ℕ). slice_get (journal ++ own_entry ∷ []) m ≡ Some own_entry) (sym number) (slice_get-append_seam journal own_entry []))
     (own-of old new _ new_is) seen)
-install-planned old new before after journal tenant text program (install.Full at) now open fits tenanted fixed accepted is stands counted new_is =
+install-planned old new before after journal tenant text program (install.Full at) now ready fits tenanted fixed accepted is stands counted new_is =
     let own_entry : Entry = entry.Install tenant text in
     let told = told-by (install.Full at) install.Memory (install_answer before.limit journal tenant own_entry) (λ memory. cc) is in
     let number : at ≡ length journal = install-full-is (is_full before.limit journal own_entry) at (length journal) (record { 0 = length (texts_of journal tenant) }) told in
     let seen : new.seen ≡ max old.seen at = ap (λ (s : Session). s.seen) new_is ∙ ap (max old.seen) (counted ∙ sym number) in
     sends old new before after journal [] (request.Install text) (answer.Installed (install_told (install.Full at)))
     (stands-nil after journal stands) fixed refl fits (own-of old new _ new_is) (ap (λ (s : Session). s.conf) new_is)
-    (omega (arith, seen, number, fits.seen, length-append journal [])) (ap (λ (s : Session). s.phase) new_is ∙ open) (ap (λ (s : Session). s.phase) new_is ∙ open) tt
+    (omega (arith, seen, number, fits.seen, length-append journal [])) (ap (λ (s : Session). s.phase) new_is ∙ ready) (ap (λ (s : Session). s.phase) new_is ∙ ready) tt
     (install-explained old new before journal [] tenant text program (install.Full at) fits tenanted accepted told tt (own-of old new _ new_is) seen)
-install-planned old new before after journal tenant text program install.Memory now open fits tenanted fixed accepted is stands counted new_is =
+install-planned old new before after journal tenant text program install.Memory now ready fits tenanted fixed accepted is stands counted new_is =
     let seen : new.seen ≡ old.seen = ap (λ (s : Session). s.seen) new_is in
     sends old new before after journal [] (request.Install text) (answer.Installed (install_told install.Memory))
     (stands-nil after journal stands) fixed refl fits (own-of old new _ new_is) (ap (λ (s : Session). s.conf) new_is)
-    (omega (arith, seen, fits.seen, length-append journal [])) (ap (λ (s : Session). s.phase) new_is ∙ open) (ap (λ (s : Session). s.phase) new_is ∙ open) tt
+    (omega (arith, seen, fits.seen, length-append journal [])) (ap (λ (s : Session). s.phase) new_is ∙ ready) (ap (λ (s : Session). s.phase) new_is ∙ ready) tt
     (λ state was. record {
       next = state;
       step = steps.installs_nothing tenant text (was.tenant ∙ tenanted);

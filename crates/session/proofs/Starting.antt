@@ -38,6 +38,16 @@ pub among-callers : (before : List Asked) (caller : ℕ) → list_any (λ other.
 among-callers [] caller = refl
 among-callers (asked ∷ before) caller = ap (λ (rest : Bool). (asked.caller == caller) || rest) (among-callers before caller)
 
+-- whether a caller was found among the earlier ones
+pub among-is : (earlier : List ℕ) (before : List Asked) (caller : ℕ) (found is : Bool) → earlier ≡ map caller_of before
+    → found ≡ list_any (λ other. other == caller) earlier → found ≡ is → is_among before caller ≡ is
+among-is earlier before caller found is callers value same =
+    sym (among-callers before caller) ∙ ap (λ (list : List ℕ). list_any (λ other. other == caller) list) (sym callers) ∙ sym value ∙ same
+
+pub callers-more : (calls : List Asked) (asked : Asked) → map caller_of (calls ++ asked ∷ []) ≡ map caller_of calls ++ asked.caller ∷ []
+callers-more [] asked = refl
+callers-more (first ∷ calls) asked = ap (λ (rest : List ℕ). first.caller ∷ rest) (callers-more calls asked)
+
 free-by : (one : Kept) (found : Option Kept) (same : Bool) → IsTrue one.doubtful → IsFree found → IsFree (if same then Some one else found)
 free-by one found true doubtful free = doubtful
 free-by one found false doubtful free = free
@@ -120,9 +130,9 @@ front-same calls asked place within = sym (take-append-le place calls (asked ∷
 
 pub no-calls : (session : Session) (book : BookValue) (journal : List Entry) (tenant : TenantId) → AllStart session book journal tenant [] [] []
 no-calls session book journal tenant = record {
-  items = λ state stands. record { many = refl; each = λ place given found. absurd cc };
+  each = λ state stands. record { many = refl; each = λ place given found. absurd cc };
   refusals = tt;
-  begun_calls = tt;
+  have_begun = tt;
 }
 
 item-row : (session : Session) (book : BookValue) (journal : List Entry) (tenant : TenantId) (before : List Asked) (asked : Asked) (given : Start) (state : State)
@@ -214,7 +224,7 @@ pub starts-more : (session : Session) (book : BookValue) (journal : List Entry) 
     → AllStart session book journal tenant calls items begun_calls
     → AllStart session book journal tenant (calls ++ asked ∷ []) (items ++ item_so_far given ∷ []) (begun_with begun_calls (length items) given)
 starts-more session book journal tenant calls items begun_calls asked given admitted many starts all = record {
-  items = λ state stands. items-more session book journal tenant calls items asked given state stands starts (all.items state stands);
+  each = λ state stands. items-more session book journal tenant calls items asked given state stands starts (all.each state stands);
   refusals = all-push IsRefusal items (item_so_far given) all.refusals (so-far-refusal session book journal tenant calls asked given starts);
-  begun_calls = begun-more session book journal tenant calls (length items) asked given begun_calls admitted many starts all.begun_calls;
+  have_begun = begun-more session book journal tenant calls (length items) asked given begun_calls admitted many starts all.have_begun;
 }

@@ -56,6 +56,10 @@ terms_over session book = terms_of session.conf book.grants book.limit
 abbrev pub IsOpen : Session → Type 0
 IsOpen session = session.phase ≡ phase.Open
 
+-- the session as it is when it has ended
+abbrev pub ended_now : Session → Session
+ended_now session = record session { phase = phase.Ended }
+
 abbrev pub HasEnded : Session → Type 0
 HasEnded session = session.phase ≡ phase.Ended
 

@@ -52,9 +52,9 @@ begun_with begun_calls place (start.Began task) = begun_calls ++ record { place 
 
 -- each call has its item so far, a refusal, and those that began are tasks
 pub record AllStart (session : Session) (book : BookValue) (journal : List Entry) (tenant : TenantId) (calls : List Asked) (items : List Item) (begun_calls : List Begun) : Type 0 where
-  pub items : (state : State) → Stands session state → AreItems (terms_over session book) tenant journal state calls items
+  pub each : (state : State) → Stands session state → AreItems (terms_over session book) tenant journal state calls items
   pub refusals : AllByRecursion IsRefusal items
-  pub begun_calls : AllByRecursion (HasBegun session book.grants journal calls) begun_calls
+  pub have_begun : AllByRecursion (HasBegun session book.grants journal calls) begun_calls
 
 -- the items with those of the calls that have ended
 abbrev pub filled : List Item → List CallEnd → List Item

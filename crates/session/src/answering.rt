@@ -134,10 +134,7 @@ impl Session {
         ensures fixed { KeepsFixed book.old book.new }
     {
         let Some(tenant) = self.tenant() else {
-            return match request {
-                Request::Hello { tenant, key } => self.hello(book, tenant, key),
-                _ => self.stop(Fault::OutOfTurn),
-            };
+            return self.first(book, request);
         };
         match request {
             Request::Hello { .. } => self.stop(Fault::OutOfTurn),
@@ -153,11 +150,25 @@ impl Session {
         }
     }
 
+    /// Answers the first request, which has to be Hello.
+    fn first(&mut self, book: &Book, request: Request) -> Plan
+        requires open { IsOpen self.old }
+        requires fits { (journal : List Entry) → StandsFor book.now journal → Fits self.old journal book.now.grants }
+        requires first { tenant_of self.old.admitted ≡ None }
+        ensures { (journal : List Entry) → StandsFor book.now journal
+            → Planned self.old self.new book.now book.now journal request result }
+    {
+        match request {
+            Request::Hello { tenant, key } => self.hello(book, tenant, key),
+            _ => self.stop(Fault::OutOfTurn),
+        }
+    }
+
     /// Admits a tenant that is configured with this key.
     fn hello(&mut self, book: &Book, tenant: TenantId, key: u64) -> Plan
         requires open { IsOpen self.old }
         requires fits { (journal : List Entry) → StandsFor book.now journal → Fits self.old journal book.now.grants }
-        requires first { self.old.admitted ≡ None }
+        requires first { tenant_of self.old.admitted ≡ None }
         ensures { (journal : List Entry) → StandsFor book.now journal
             → Planned self.old self.new book.now book.now journal (request.Hello tenant key) result }
     {
@@ -258,7 +269,7 @@ impl Session {
     {
         match start_all(self, book, tenant, calls) {
             Ok(Started { items, begun }) => {
-                if begun.is_empty() {
+                if begun.as_slice().is_empty() {
                     return Plan::Send(self.tell_items(items));
                 }
                 self.phase = Phase::Running(items);

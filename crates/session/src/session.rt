@@ -7,7 +7,7 @@ ghost use Rattle.book.specs.Standing.{KeepsFixed, StandsFor};
 ghost use Rattle.wire.specs.Requests.{FitsRequest};
 ghost use Rattle.session.specs.States.{State, Terms, opening};
 ghost use Rattle.session.specs.Steps.{faulted};
-ghost use Rattle.session.specs.Standing.{AllStay, Asks, Awaits, EndHolds, Finishes, Fits, HasEnded, IsAsked, IsOpen, IsRunning, Planned, Refused, Stands, request_of, room_in, terms_of};
+ghost use Rattle.session.specs.Standing.{AllStay, Asks, Awaits, EndHolds, Finishes, Fits, IsAsked, IsOpen, IsRunning, Planned, Refused, Stands, ended_now, request_of, room_in};
 
 use crate::conf::SessionConf;
 use crate::fault::Fault;
@@ -82,7 +82,7 @@ impl Session {
     /// Ends the session with a Fault.
     pub fn end(&mut self, fault: Fault) -> Answer
         ensures told { result ≡ faulted fault }
-        ensures ended { HasEnded self.new }
+        ensures ended { self.new ≡ ended_now self.old }
         ensures stands { (state : State) → Stands self.old state → Stands self.new state }
         ensures fits { (journal : List Entry) (grants : GrantsList) → Fits self.old journal grants → Fits self.new journal grants }
     {
@@ -132,6 +132,7 @@ impl Session {
             → length journal < 2 ^ 64 → Fits self.old journal terms.grants → Awaits self.old terms journal calls
             → AllByRecursion (EndHolds self.old terms journal calls) ends.items
             → Finishes terms journal calls self.old self.new result }
+        ensures conf { self.new.conf ≡ self.old.conf }
     {
         match replace(&mut self.phase, Phase::Open) {
             Phase::Running(items) => self.tell_items(fill(items, ends)),
