@@ -1,0 +1,9 @@
+pub mod DepthLemmas
+pub mod FindingLemmas
+pub mod StackLemmas
+pub mod HaltLemmas
+pub mod GoingLemmas
+pub mod SteadyLemmas
+pub mod StandingLemmas
+pub mod AnswerLemmas
+pub mod ResumeLemmas
