@@ -92,14 +92,22 @@ fn judged(alloc: Global, book: &mut Book, number: u64) -> Result<Commit, Fail>
     Ok(book.commit_sent(sent))
 }
 
-/// Whether entry 1 is the call, of home Client, with its read bare.
+/// Whether a read is kept with its place and version alone.
+fn is_bare(read: &ReadItem) -> bool {
+    read.version == 0 && read.read_at == 0 && read.value.is_none()
+}
+
+/// Whether entry 1 is call 3, of home Client, with its one read bare.
 fn is_kept(book: &Book) -> bool {
     match book.journal().at(1) {
         Some(Entry::Invoke {
             call, reads, home, ..
         }) => {
-            let bare = matches!(reads.as_slice(), [ReadItem { version: 0, read_at: 0, value: None, .. }]);
-            call.number.0 == 3 && *home == Home::Client && bare
+            let bare = match reads.as_slice() {
+                [read] => is_bare(read),
+                _ => false,
+            };
+            bare && call.number.0 == 3 && *home == Home::Client
         }
         _ => false,
     }
