@@ -45,7 +45,10 @@ fn jumps_out_of_a_function_and_loops_without_a_charge_are_not_sound(
     let charged = lone(alloc, vec![in alloc; Op::Args, Op::Charge(1), Op::Jump(1)]?)?;
     assert!(rt; is_sound(&charged));
     // The next read of a `multiget` charges, and one alone does not.
-    let reads = lone(alloc, vec![in alloc; Op::Multi(2), Op::Jump(0), Op::Return]?)?;
+    let reads = lone(
+        alloc,
+        vec![in alloc; Op::Multi(2), Op::Jump(0), Op::Return]?,
+    )?;
     assert!(rt; is_sound(&reads));
     let read = lone(alloc, vec![in alloc; Op::Get(2), Op::Jump(0), Op::Return]?)?;
     assert!(rt; !is_sound(&read));

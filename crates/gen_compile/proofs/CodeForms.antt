@@ -11,7 +11,7 @@ use Rattle.ext_mean.specs.declared.statement.Statement.{Statement}
 use Rattle.ext_mean.specs.declared.statement.Block.{Block}
 use Rattle.ext_mean.specs.declared.statement.Statement.TheVariants as does
 use Rattle.ext_mean.specs.declared.statement.Statement.TheViews.{roll-Statement}
-use Rattle.ext_mean.specs.declared.statement.Statement.TheOpen.{Statement-F, Block-F}
+use Rattle.ext_mean.specs.declared.statement.Statement.TheOpen.{Statement-F}
 use Rattle.ext_mean.specs.declared.statement.Statement.TheFolds.{fold-roll-Statement, fold-roll-Block, map-Statement}
 use Rattle.ext_mean.specs.declared.tree.Function.{Function}
 use Rattle.gen_code.specs.Codes.{ExpressionCode, StatementCode, BlockCode, expression_code, expression_form, statement_code, statement_form, block_code, block_form}

@@ -1,10 +1,9 @@
 -- Where the jumps of a piece of code go: inside it or to its end, and each one that does not go forward
 -- to a charge. Pieces of such pieces are such pieces.
 use Rattle.std.specs.Prelude.{IsTrue, slice_get}
-use Rattle.std.proofs.Common.{◌≡◌, ◌∙◌, ℕ, zero, suc, ◌+◌, ◌-◌, ◌<◌, ◌≤◌, Bool, true, false, List, [], ◌∷◌, ◌++◌, length, Option, Some, None, refl, ap, sym, subst, arith, append_assoc, length-append}
+use Rattle.std.proofs.Common.{◌≡◌, ◌∙◌, ℕ, zero, suc, ◌+◌, ◌-◌, ◌<◌, ◌≤◌, List, [], ◌∷◌, ◌++◌, length, Option, Some, None, refl, ap, sym, subst, arith, length-append}
 use Rattle.std.proofs.lemmas.List.{append-nil}
 use Rattle.gen_code.specs.declared.op.Op.{Op}
-use Rattle.gen_code.specs.declared.op.Op.TheVariants as op
 use Rattle.gen_code.specs.Sound.{is_charge, jump_of}
 
 -- what holds of the goal of a jump, if it is one
@@ -71,9 +70,9 @@ wider before ops after base at pc target is h =
       from = omega (arith, h.from, is);
       to = omega (arith, h.to, is, n);
       charged = λ back.
-      let e : length before + (target - at) ≡ target - base = omega (arith, h.from, is) in
-      subst (λ k. IsTrue (is_charge (slice_get (before ++ (ops ++ after)) k))) e
-      (charge-behind before (ops ++ after) (target - at) (charge-front ops after (target - at) (h.charged back)));
+          let e : length before + (target - at) ≡ target - base = omega (arith, h.from, is) in
+          subst (λ k. IsTrue (is_charge (slice_get (before ++ (ops ++ after)) k))) e
+          (charge-behind before (ops ++ after) (target - at) (charge-front ops after (target - at) (h.charged back)));
     }
 
 -- a piece of a whole

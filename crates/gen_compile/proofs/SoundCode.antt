@@ -1,6 +1,6 @@
 -- The code of every program is sound: by induction over the tree.
 use Rattle.std.specs.Prelude.{IsTrue, slice_get, unwrap_or}
-use Rattle.std.proofs.Common.{◌≡◌, ◌∙◌, ℕ, zero, suc, ◌+◌, ◌-◌, ◌<◌, ◌≤◌, List, [], ◌∷◌, ◌++◌, length, map, Option, Some, None, refl, ap, sym, subst, arith, length-append}
+use Rattle.std.proofs.Common.{◌≡◌, ◌∙◌, ℕ, zero, suc, ◌+◌, ◌-◌, ◌<◌, List, [], ◌∷◌, ◌++◌, length, map, Some, None, refl, ap, sym, subst, arith, length-append}
 use Rattle.ext_mean.specs.declared.expr.BinOp.{BinOp}
 use Rattle.ext_mean.specs.declared.expr.BinOp.TheVariants as operator
 use Rattle.ext_mean.specs.declared.expr.Expr.{Expr}
@@ -242,8 +242,8 @@ lands ops behind more pc target h =
     record {
       inside = omega (arith, h.to, n, more);
       charged = λ at_most.
-      let e : target - 0 ≡ target = omega arith in
-      charge-front ops behind target (subst (λ k. IsTrue (is_charge (slice_get ops k))) e (h.charged at_most));
+          let e : target - 0 ≡ target = omega arith in
+          charge-front ops behind target (subst (λ k. IsTrue (is_charge (slice_get ops k))) e (h.charged at_most));
     }
 
 function-sound : (functions : List Function) (count : ℕ) (function : Function) → IsSoundFn (function_code functions count function).ops

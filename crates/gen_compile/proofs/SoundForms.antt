@@ -1,6 +1,5 @@
 -- The forms of code with jumps are pieces, where their parts are.
-use Rattle.std.specs.Prelude.{IsTrue, slice_get}
-use Rattle.std.proofs.Common.{◌≡◌, ◌∙◌, ℕ, ◌+◌, ◌<◌, ◌≤◌, Bool, true, false, List, [], ◌∷◌, ◌++◌, length, Option, Some, None, refl, ap, sym, subst, arith, append_assoc, length-append}
+use Rattle.std.proofs.Common.{◌≡◌, ◌∙◌, ℕ, ◌+◌, true, false, List, [], ◌∷◌, ◌++◌, length, Some, refl, ap, sym, subst, arith, append_assoc, length-append}
 use Rattle.std.proofs.lemmas.List.{append-nil}
 use Rattle.ext_mean.specs.declared.tree.Param.{Param}
 use Rattle.ext_mean.specs.Typing.{arm_name}
@@ -30,12 +29,14 @@ branch parting one two base parts first second =
     let before = parting ∷ (one ++ (leap ∷ [])) in
     let m : length (one ++ (leap ∷ [])) ≡ length one + length (leap ∷ []) = length-append one (leap ∷ []) in
     let e : one ++ (leap ∷ two) ≡ (one ++ (leap ∷ [])) ++ (two ++ []) =
-    sym (append_assoc one (leap ∷ []) (two ++ []) ∙ ap (λ (l : List Op). one ++ (leap ∷ l)) (append-nil two)) in
-    (subst (λ jump. IfJump (Within whole base base) jump) (sym parts) (forward whole base base _ (omega arith) (omega arith) (omega (arith, n))),
-    jumps-append (Within whole base) (base + 1) one (leap ∷ two)
-    (part whole (parting ∷ []) one (leap ∷ two) base (base + 1) refl (omega arith) first)
-    (forward whole base (base + 1 + length one) _ (omega arith) (omega arith) (omega (arith, n)),
-    part whole before two [] base (base + 1 + length one + 1) (ap (λ (l : List Op). parting ∷ l) e) (omega (arith, m)) second))
+    sym (append_assoc one (leap ∷ []) (two ++ []) ∙ ap (λ (l : List Op). one ++ (leap ∷ l)) (append-nil two)) in (
+      subst (λ jump. IfJump (Within whole base base) jump) (sym parts) (forward whole base base _ (omega arith) (omega arith) (omega (arith, n))),
+      jumps-append (Within whole base) (base + 1) one (leap ∷ two)
+          (part whole (parting ∷ []) one (leap ∷ two) base (base + 1) refl (omega arith) first) (
+            forward whole base (base + 1 + length one) _ (omega arith) (omega arith) (omega (arith, n)),
+            part whole before two [] base (base + 1 + length one + 1) (ap (λ (l : List Op). parting ∷ l) e) (omega (arith, m)) second,
+          ),
+    )
 
 pub if-keeps : (test first second : Coder) → Keeps test → Keeps first → Keeps second → Keeps (if_code test first second)
 if-keeps test first second tests one two scope base =
@@ -72,13 +73,16 @@ while-keeps test body tests turns scope base =
     let m : length (turn ++ (again ∷ [])) ≡ length turn + length (again ∷ []) = length-append turn (again ∷ []) in
     let k : length (tested ++ (past ∷ [])) ≡ length tested + length (past ∷ []) = length-append tested (past ∷ []) in
     let e : tested ++ (past ∷ (turn ++ (again ∷ []))) ≡ (tested ++ (past ∷ [])) ++ (turn ++ (again ∷ [])) =
-    sym (append_assoc tested (past ∷ []) (turn ++ (again ∷ []))) in
-    (tt, jumps-append (Within whole base) (base + 1) tested (past ∷ (turn ++ (again ∷ [])))
-    (part whole (op.Charge 1 ∷ []) tested (past ∷ (turn ++ (again ∷ []))) base (base + 1) refl (omega arith) (tests scope (base + 1)))
-    (forward whole base (base + 1 + length tested) _ (omega arith) (omega arith) (omega (arith, n, m)),
-    jumps-append (Within whole base) at_body turn (again ∷ [])
-    (part whole (op.Charge 1 ∷ (tested ++ (past ∷ []))) turn (again ∷ []) base at_body (ap (λ (l : List Op). op.Charge 1 ∷ l) e) (omega (arith, k)) (turns scope at_body))
-    (back whole base _ refl, tt)))
+    sym (append_assoc tested (past ∷ []) (turn ++ (again ∷ []))) in (
+      tt,
+      jumps-append (Within whole base) (base + 1) tested (past ∷ (turn ++ (again ∷ [])))
+          (part whole (op.Charge 1 ∷ []) tested (past ∷ (turn ++ (again ∷ []))) base (base + 1) refl (omega arith) (tests scope (base + 1))) (
+            forward whole base (base + 1 + length tested) _ (omega arith) (omega arith) (omega (arith, n, m)),
+            jumps-append (Within whole base) at_body turn (again ∷ [])
+                (part whole (op.Charge 1 ∷ (tested ++ (past ∷ []))) turn (again ∷ []) base at_body (ap (λ (l : List Op). op.Charge 1 ∷ l) e) (omega (arith, k)) (turns scope at_body))
+                (back whole base _ refl, tt),
+          ),
+    )
 
 pub multi-keeps : (name : List ℕ) (found none_block : Coder) → Keeps found → Keeps none_block → Keeps (multi_code name found none_block)
 multi-keeps name found none_block one two scope base =
@@ -98,17 +102,27 @@ multi-keeps name found none_block one two scope base =
     let k : length (first ++ middle) ≡ length first + length middle = length-append first middle in
     let e : first ++ rest ≡ (first ++ middle) ++ last = sym (append_assoc first middle last) in
     let p : base + 1 + 1 ≡ base + 2 = omega arith in
-    let q : at_none + 1 + 1 ≡ at_none + 2 = omega arith in
-    (forward whole base base _ (omega arith) (omega arith) (omega (arith, n, m)),
-    (forward whole base (base + 1) _ (omega arith) (omega arith) (omega (arith, n, m)),
-    subst (λ number. Jumps (Within whole base) number (first ++ rest)) (sym p)
-    (jumps-append (Within whole base) (base + 2) first rest
-    (part whole (read ∷ past ∷ []) first rest base (base + 2) refl (omega arith) (found-keeps name found one scope (base + 2)))
-    (back whole base _ refl, (tt, (tt,
-    subst (λ number. Jumps (Within whole base) number last) (sym q)
-    (jumps-append (Within whole base) (at_none + 2) second (again ∷ [])
-    (part whole (read ∷ past ∷ (first ++ middle)) second (again ∷ []) base (at_none + 2) (ap (λ (l : List Op). read ∷ past ∷ l) e) (omega (arith, k)) (two scope (at_none + 2)))
-    (back whole base _ refl, tt))))))))
+    let q : at_none + 1 + 1 ≡ at_none + 2 = omega arith in (
+      forward whole base base _ (omega arith) (omega arith) (omega (arith, n, m)),
+      (
+        forward whole base (base + 1) _ (omega arith) (omega arith) (omega (arith, n, m)),
+        subst (λ number. Jumps (Within whole base) number (first ++ rest)) (sym p)
+            (jumps-append (Within whole base) (base + 2) first rest
+            (part whole (read ∷ past ∷ []) first rest base (base + 2) refl (omega arith) (found-keeps name found one scope (base + 2))) (
+              back whole base _ refl,
+              (
+                tt,
+                (
+                  tt,
+                  subst (λ number. Jumps (Within whole base) number last) (sym q)
+                      (jumps-append (Within whole base) (at_none + 2) second (again ∷ [])
+                      (part whole (read ∷ past ∷ (first ++ middle)) second (again ∷ []) base (at_none + 2) (ap (λ (l : List Op). read ∷ past ∷ l) e) (omega (arith, k)) (two scope (at_none + 2)))
+                      (back whole base _ refl, tt)),
+                ),
+              ),
+            )),
+      ),
+    )
 
 pub and-keeps : (left right : Coder) → Keeps left → Keeps right → Keeps (and_code left right)
 and-keeps left right one two scope base =
@@ -119,11 +133,12 @@ and-keeps left right one two scope base =
     let rest = op.Not ∷ op.Not ∷ op.Jump (at_false + 1) ∷ op.Truth false ∷ [] in
     let whole = op.JumpFalse at_false ∷ (second ++ rest) in
     let n : length (second ++ rest) ≡ length second + length rest = length-append second rest in
-    both first whole base at refl (one scope base)
-    (forward whole at at _ (omega arith) (omega arith) (omega (arith, n)),
-    jumps-append (Within whole at) (at + 1) second rest
-    (part whole (op.JumpFalse at_false ∷ []) second rest at (at + 1) refl (omega arith) (two scope (at + 1)))
-    (tt, (tt, (forward whole at _ _ (omega arith) (omega arith) (omega (arith, n)), (tt, tt)))))
+    both first whole base at refl (one scope base) (
+      forward whole at at _ (omega arith) (omega arith) (omega (arith, n)),
+      jumps-append (Within whole at) (at + 1) second rest
+          (part whole (op.JumpFalse at_false ∷ []) second rest at (at + 1) refl (omega arith) (two scope (at + 1)))
+          (tt, (tt, (forward whole at _ _ (omega arith) (omega arith) (omega (arith, n)), (tt, tt)))),
+    )
 
 pub or-keeps : (left right : Coder) → Keeps left → Keeps right → Keeps (or_code left right)
 or-keeps left right one two scope base =
@@ -135,10 +150,16 @@ or-keeps left right one two scope base =
     let whole = op.JumpFalse (at + 3) ∷ op.Truth true ∷ behind ∷ (second ++ rest) in
     let n : length (second ++ rest) ≡ length second + length rest = length-append second rest in
     let p : at + 1 + 1 + 1 ≡ at + 3 = omega arith in
-    both first whole base at refl (one scope base)
-    (forward whole at at _ (omega arith) (omega arith) (omega (arith, n)), (tt,
-    (forward whole at (at + 1 + 1) _ (omega arith) (omega arith) (omega (arith, n)),
-    subst (λ number. Jumps (Within whole at) number (second ++ rest)) (sym p)
-    (jumps-append (Within whole at) (at + 3) second rest
-    (part whole (op.JumpFalse (at + 3) ∷ op.Truth true ∷ behind ∷ []) second rest at (at + 3) refl (omega arith) (two scope (at + 3)))
-    (tt, (tt, tt))))))
+    both first whole base at refl (one scope base) (
+      forward whole at at _ (omega arith) (omega arith) (omega (arith, n)),
+      (
+        tt,
+        (
+          forward whole at (at + 1 + 1) _ (omega arith) (omega arith) (omega (arith, n)),
+          subst (λ number. Jumps (Within whole at) number (second ++ rest)) (sym p)
+              (jumps-append (Within whole at) (at + 3) second rest
+              (part whole (op.JumpFalse (at + 3) ∷ op.Truth true ∷ behind ∷ []) second rest at (at + 3) refl (omega arith) (two scope (at + 3)))
+              (tt, (tt, tt))),
+        ),
+      ),
+    )

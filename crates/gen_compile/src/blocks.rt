@@ -8,8 +8,8 @@ ghost use Rattle.gen_code.specs.declared.op.Op.TheVariants as op;
 use crate::names::Callees;
 use crate::numbers::{narrow, place_behind};
 use crate::statements::{
-    write_assign, write_call, write_copy, write_del, write_let, write_put, write_resp, write_return,
-    write_set, write_set8,
+    write_assign, write_call, write_copy, write_del, write_let, write_put, write_resp,
+    write_return, write_set, write_set8,
 };
 use crate::values::{write_one, write_value};
 use crate::variables::Variables;

@@ -32,11 +32,7 @@ fn parameters(alloc: Global, params: &[Param]) -> Result<Variables, Memory>
 }
 
 /// The code of a function, which may call some.
-fn compile_function(
-    alloc: Global,
-    callees: &Callees,
-    function: &Function,
-) -> Result<CodeFn, Memory>
+fn compile_function(alloc: Global, callees: &Callees, function: &Function) -> Result<CodeFn, Memory>
     ensures { IfOk result (λ code. code ≡ function_code callees.now.functions.now callees.now.count function.now) }
 {
     let params = narrow(function.params.len())?;
