@@ -8,6 +8,7 @@
 mod answers;
 mod book;
 mod changes;
+mod ended;
 mod exts;
 mod keeps;
 mod lasts;
