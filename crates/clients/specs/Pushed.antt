@@ -5,6 +5,7 @@ use Rattle.sp_base.specs.declared.numbers.Caller.{Caller}
 use Rattle.sp_base.specs.declared.numbers.TableId.{TableId}
 use Rattle.sp_base.specs.declared.reads.ReadItem.{ReadItem}
 use Rattle.sp_base.specs.declared.rights.Level.{Level}
+use Rattle.sp_base.specs.Limits.{IsArguments}
 use Rattle.ext_mean.specs.declared.run.Run.{Run}
 use Rattle.ext_mean.specs.declared.run.Run.TheVariants.{Wants}
 use Rattle.ext_mean.specs.Asked.{AreAsked}
@@ -12,6 +13,7 @@ use Rattle.ext_mean.specs.Meaning.{mean}
 use Rattle.ext_mean.specs.Outcomes.{EndsWith}
 use Rattle.ext_mean.specs.Views.{part}
 use Rattle.journal.specs.Folds.{same_caller}
+use Rattle.rw_set.specs.declared.sent.Sent.{Sent}
 use Rattle.task.specs.Extensions.{ExtValue}
 use Rattle.task.specs.Turning.{Live}
 use Rattle.clients.specs.declared.pushed_call.Asks.{Asks}
@@ -45,16 +47,26 @@ pub record WantsAt (run : Run) (table : TableId) (key : List ℕ) : Type 0 where
   pub used : ℕ
   pub is : run ≡ Wants table key used
 
--- what every call at its client keeps: its budget is within its limits, and its reads are in order those
--- that its program asks for
+-- What every call at its client keeps: its arguments are within their limits, and its reads are in order
+-- those that its program asks for, each paid with 16 units of its budget.
 pub record IsCarried (pushed : Pushed) : Type 0 where
   pub budget : pushed.call.budget ≤ 100000
+  pub arguments : IsArguments pushed.call.args
   pub asked : AreAsked pushed.ext.program pushed.call.args pushed.call.budget pushed.rights pushed.reads
+  pub paid : 16 * length pushed.reads ≤ pushed.call.budget
 
 -- what a client asks for, by what the program means
 abbrev pub IsAskedBy : Run → Asks → Type 0
 IsAskedBy run (Fetch table key) = WantsAt run table key
 IsAskedBy run (Finish outcome writes) = EndsWith run outcome writes
+
+-- What a client sends as the end of its call: what the program means on the reads that it was given, with
+-- arguments within their limits and with the reads that the program asks for.
+pub record IsTrueEnd (pushed : Pushed) (sent : Sent) : Type 0 where
+  pub call : sent.call ≡ pushed.call
+  pub reads : sent.reads ≡ pushed.reads
+  pub meant : EndsWith (meant pushed) sent.outcome sent.writes
+  pub carried : IsCarried pushed
 
 -- the run has ended
 abbrev pub HasEnd : Run → Type 0

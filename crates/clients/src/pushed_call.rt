@@ -1,7 +1,6 @@
 ghost use Rattle.std.specs.Prelude.{◌≡◌, IfOk, MatchOption};
 ghost use Rattle.sp_base.specs.Spelling.{FitsOpt};
-ghost use Rattle.ext_mean.specs.Outcomes.{EndsWith};
-ghost use Rattle.clients.specs.Pushed.{HasEnd, IsAskedBy, IsCarried, IsWanted, Pushed, WantsAt, joined, meant, pushed_of};
+ghost use Rattle.clients.specs.Pushed.{HasEnd, IsAskedBy, IsCarried, IsTrueEnd, IsWanted, Pushed, WantsAt, joined, meant, pushed_of};
 
 use ext_eval::eval;
 use ext_mean::Run;
@@ -89,7 +88,8 @@ impl PushedCall {
 
     /// The place of the record that the client wants; none where the call has ended.
     pub fn wanted(&self) -> Option<(TableId, &Key)>
-        ensures { MatchOption result (HasEnd (meant self.now)) (λ place. IsWanted self.now place.0 place.1.now) }
+        ensures place { MatchOption result (HasEnd (meant self.now)) (λ place. IsWanted self.now place.0 place.1.now) }
+        ensures carried { IsCarried self.now }
     {
         match &self.asks {
             Asks::Fetch { table, key } => Some((*table, key)),
@@ -118,9 +118,7 @@ impl PushedCall {
     /// What the client sends as the call's end: what the program means on the reads that it was given.
     pub fn into_sent(self) -> Sent
         requires { HasEnd (meant self) }
-        ensures call { result.call ≡ self.call }
-        ensures reads { result.reads ≡ self.reads }
-        ensures meant { EndsWith (meant self) result.outcome result.writes }
+        ensures { IsTrueEnd self result }
     {
         let PushedCall { parked, asks, .. } = self;
         let (call, reads) = parked.parts();

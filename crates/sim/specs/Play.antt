@@ -2,6 +2,7 @@
 use Rattle.std.specs.Prelude.{◌≡◌, ℕ, zero, suc, ◌+◌, Bool, true, false, List, [], ◌∷◌, ◌++◌, length, map, Option, Some, None, slice_get, drop, sum_by}
 use Rattle.sp_base.specs.declared.calls.Asked.{Asked}
 use Rattle.sp_base.specs.declared.calls.Call.{Call}
+use Rattle.sp_base.specs.declared.calls.Policy.{Policy}
 use Rattle.sp_base.specs.declared.numbers.Caller.{Caller}
 use Rattle.sp_base.specs.declared.numbers.TableId.{TableId}
 use Rattle.sp_base.specs.declared.numbers.TenantId.{TenantId}
@@ -23,8 +24,7 @@ use Rattle.journal.specs.declared.entry.Entry.TheVariants as entry
 use Rattle.journal.specs.declared.entry.Home.{Home}
 use Rattle.journal.specs.declared.entry.Home.TheVariants.{Server, Client}
 use Rattle.journal.specs.Granted.{granted}
-use Rattle.journal.specs.Reads.{bare}
-use Rattle.book.specs.Verdict.{after_commit, after_install, after_put, install_answer, item_at, put_answer, verdict}
+use Rattle.book.specs.Verdict.{after_commit, after_install, after_put, entry_at, install_answer, item_at, put_answer, verdict}
 use Rattle.report.specs.declared.line.Line.{Line}
 use Rattle.report.specs.declared.line.Line.TheVariants as line
 use Rattle.report.specs.declared.line.Prefix.{Prefix}
@@ -143,11 +143,7 @@ abbrev pub commit_told : SimState → Call → Entry → Commit → Told
 commit_told state call entry given =
     (of_call call (commit_said given), with_journal state (after_commit given state.journal entry))
 
--- the entry of a call that ended here, in the server or at its client
-abbrev pub entry_at : Home → Call → Outcome → List Write → List ReadItem → Entry
-entry_at home call outcome writes reads = entry.Invoke call outcome writes (map bare reads) home
-
--- a call ends by the verdict on its entry
+-- a call ends, in the server or at its client, by the verdict on its entry
 abbrev pub end_told : SimState → Home → Live → Outcome → List Write → Told
 end_told state home live outcome writes =
     let entry : Entry = entry_at home live.call outcome writes live.reads in
@@ -158,9 +154,9 @@ abbrev pub load_of : List (List Live) → ℕ
 load_of queues = sum_by length queues
 
 -- whether a call that goes on is pushed to its client, at this load
-abbrev pub goes_away : SimState → ℕ → Live → Bool
-goes_away state load live =
-    is_pushed state.policy load live.spent (weight_of live.reads) live.call.push_ok
+abbrev pub goes_away : Policy → ℕ → Live → Bool
+goes_away policy load live =
+    is_pushed policy load live.spent (weight_of live.reads) live.call.push_ok
 
 -- a call that goes on joins the pushed calls at their end, or the back of its worker's queue
 abbrev pub placed : SimState → ℕ → Live → Bool → SimState
@@ -177,10 +173,10 @@ goes_on state worker live told pushed =
 -- with the version that it has in the journal. A call that has ended is no longer live.
 abbrev pub turned : SimState → ℕ → ℕ → Live → Phase → Told
 turned state load worker live phase.Ready =
-    goes_on state worker live (said.On live.spent) (goes_away state load live)
+    goes_on state worker live (said.On live.spent) (goes_away state.policy load live)
 turned state load worker live (phase.Waiting table key) =
     let item : ReadItem = item_at state.journal table key in
-    goes_on state worker (given live item) (said.Read table key item.version) (goes_away state load (given live item))
+    goes_on state worker (given live item) (said.Read table key item.version) (goes_away state.policy load (given live item))
 turned state load worker live (phase.Ended outcome writes) = end_told state Server live outcome writes
 
 -- the first call of a worker has a turn
@@ -210,23 +206,23 @@ carried live = turn_of live live.call.budget
 -- What becomes of a pushed call at its client. One that waits for a record keeps its place among the
 -- pushed calls: the record joins its reads, with the version that it has in the journal. One that has
 -- ended is no longer live. With its whole budget none may turn again.
-abbrev pub went : SimState → Live → Phase → Told
-went state live phase.Ready = (of_call live.call (said.On live.spent false), state)
-went state live (phase.Waiting table key) =
+abbrev pub went : SimState → Caller → Live → Phase → Told
+went state caller live phase.Ready = (of_call live.call (said.On live.spent false), state)
+went state caller live (phase.Waiting table key) =
     let item : ReadItem = item_at state.journal table key in (
       of_call live.call (said.Read table key item.version false),
-      with_pushed state (with_first (is_call_of live.call.caller) (given live item) state.pushed),
+      with_pushed state (with_first (is_call_of caller) (given live item) state.pushed),
     )
-went state live (phase.Ended outcome writes) =
-    end_told (with_pushed state (without_first (is_call_of live.call.caller) state.pushed)) Client live outcome writes
+went state caller live (phase.Ended outcome writes) =
+    end_told (with_pushed state (without_first (is_call_of caller) state.pushed)) Client live outcome writes
 
 -- the caller's pushed call goes on at its client
-abbrev pub away_found : SimState → Option Live → Told
-away_found state None = (line.Idle, state)
-away_found state (Some live) = went state (carried live) (carried live).phase
+abbrev pub away_found : SimState → Caller → Option Live → Told
+away_found state caller None = (line.Idle, state)
+away_found state caller (Some live) = went state caller (carried live) (carried live).phase
 
 abbrev pub away_event : SimState → Caller → Told
-away_event state caller = away_found state (pushed_call state caller)
+away_event state caller = away_found state caller (pushed_call state caller)
 
 -- the caller's pushed call is forgotten
 abbrev pub cut_found : SimState → Caller → Option Live → Told

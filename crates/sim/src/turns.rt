@@ -5,8 +5,9 @@ ghost use Rattle.journal.specs.declared.entry.Entry.{Entry};
 ghost use Rattle.book.specs.Standing.{RanOn, StandsFor};
 ghost use Rattle.task.specs.declared.phase.Phase.TheVariants as phase;
 ghost use Rattle.task.specs.Tasks.{HasEnded};
-ghost use Rattle.sim.specs.Play.{commit_said, of_call, turn_event};
-ghost use Rattle.sim.specs.Standing.{Ends, GoesOn, ReadsOn, Stands, Tells, units_left, workers_of};
+ghost use Rattle.report.specs.declared.line.Said.TheVariants as told;
+ghost use Rattle.sim.specs.Play.{commit_said, goes_away, of_call, turn_event};
+ghost use Rattle.sim.specs.Standing.{Ends, GoesOn, IsPlaced, MayBePushed, ReadsOn, Stands, Tells, units_left, workers_of};
 ghost use Rattle.sim.specs.State.{queue_of};
 
 use crate::sim::Sim;
@@ -44,7 +45,7 @@ impl Sim {
     fn go_on(&mut self, worker: u32, load: u32, task: Task) -> Result<Line, Memory>
         requires worker { worker < workers_of self.old }
         requires may { MayBePushed self.old task }
-        ensures { IfOk result (GoesOn self.old self.new load worker task) }
+        ensures { IfOk result (GoesOn self.old self.new load worker task (told.On task.spent)) }
     {
         let pushed = self.goes_away(load, &task);
         let said = Said::On {
@@ -96,7 +97,7 @@ impl Sim {
 
     /// Whether a call that goes on is pushed to its client, at this load.
     fn goes_away(&self, load: u32, task: &Task) -> bool
-        ensures { result ≡ is_pushed self.now.policy load task.now.spent (weight_of task.now.reads) task.now.call.push_ok }
+        ensures { result ≡ goes_away self.now.policy load task.now }
     {
         let bytes = task.reads().weight();
         place(self.policy, load, task.spent(), bytes, task.call().push_ok)

@@ -10,6 +10,9 @@ use Rattle.book.specs.Verdict.{item_at}
 use Rattle.task.specs.declared.phase.Phase.TheVariants.{Waiting}
 use Rattle.task.specs.Tasks.{IsTask}
 use Rattle.sim.proofs.Reading.{found-item, not-denied, waits-readable}
+use Rattle.task.specs.Turning.{Live, given as given_of}
+use Rattle.sim.specs.Standing.{MayBePushed}
+use Rattle.sim.proofs.Turning.{kept-may}
 use Rattle.sim.proofs.sim.Sim.read.Goals as goal
 
 pub unreachable-requires : goal.unreachable-requires
@@ -32,3 +35,11 @@ give-requires-clause-wanted c =
     found-item c.args.self.now.book.grants journal _ c.args.table c.args.key c.in-Found.item c.read.result
     (c.read.ensures.answer journal c.requires.stands.1) c.in-Found.is in
     c.requires.waits ∙ ap (λ (read : ReadItem). Waiting read.table read.key) (sym item)
+
+pub place-requires-clause-may : goal.place-requires-clause-may
+place-requires-clause-may c =
+    let given : c.give.new.self ≡ given_of c.args.task c.in-Found.item = c.in-Ok.ensures.ok in
+    subst (λ (live : Live). MayBePushed c.args.self.now live) (sym given) (kept-may c.args.self.now c.args.task c.in-Found.item c.requires.may)
+
+pub returns : goal.returns
+returns c = ?
