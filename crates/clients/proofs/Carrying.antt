@@ -38,8 +38,8 @@ wanted-of pushed table key carried wants =
     (stay-within pushed.ext.program pushed.call.args pushed.call.budget (part pushed.reads pushed.rights)) in
     record { wants = wants; paid = omega (arith, cost, within) }
   where
-    used-within : (run : Run) (table : TableId) (key : List ℕ) (used budget : ℕ) → run ≡ run.Wants table key used → IsWithin budget run → used ≤ budget
-    used-within run table key used budget is within = subst (IsWithin budget) is within
+    used-within : (ran : Run) (table : TableId) (key : List ℕ) (used budget : ℕ) → ran ≡ run.Wants table key used → IsWithin budget ran → used ≤ budget
+    used-within ran table key used budget is within = subst (IsWithin budget) is within
 
 -- the record that is wanted joins what was asked
 pub carried-more : (pushed : Pushed) (item : ReadItem) → IsCarried pushed → WantsAt (meant pushed) item.table item.key → IsCarried (joined pushed item)

@@ -1,6 +1,6 @@
 -- Places of which some are empty: the first call that passes a test, the list without it and with another.
 use Rattle.std.specs.Prelude.{slice_get, slice_set, if◌then◌else◌}
-use Rattle.std.proofs.Common.{◌≡◌, ◌<◌, ℕ, zero, suc, Bool, true, false, List, [], ◌∷◌, ◌++◌, length, drop, Option, Some, None, refl, ap, sym, ◌∙◌, arith}
+use Rattle.std.proofs.Common.{◌≡◌, ◌<◌, ℕ, zero, suc, Bool, true, false, List, [], ◌∷◌, ◌++◌, length, Option, Some, None, refl, ap, sym, ◌∙◌, arith}
 use Rattle.clients.specs.First.{first_of, with_first, without_first}
 use Rattle.clients.specs.Placing.{somes}
 
@@ -71,6 +71,23 @@ first-with {A = A} passes (Some y ∷ places) (suc at) x other is =
     ap (λ (rest : List A). y ∷ rest) (first-with passes places at x other (first-behind passes (Some y) places at x is))
     ∙ ap (λ (b : Bool). if b then other ∷ somes places else y ∷ with_first passes other (somes places)) (sym (is.before 0 y (omega arith) refl))
 
+-- a list in which none passes stays
+stays-by : {A : Type 0} (test : Bool) (y : A) (ys less : List A) (behind : Option A) → (behind ≡ None → less ≡ ys)
+    → (if test then Some y else behind) ≡ None → (if test then ys else y ∷ less) ≡ y ∷ ys
+stays-by true y ys less behind rest none = absurd (cc)
+stays-by {A = A} false y ys less behind rest none = ap (λ (list : List A). y ∷ list) (rest none)
+
+pub without-none : {A : Type 0} (passes : A → Bool) (xs : List A) → first_of passes xs ≡ None → without_first passes xs ≡ xs
+without-none passes [] none = refl
+without-none passes (y ∷ ys) none =
+    stays-by (passes y) y ys (without_first passes ys) (first_of passes ys) (without-none passes ys) none
+
+-- a place that is changed twice
+pub set-twice : {A : Type 0} (xs : List A) (at : ℕ) (y z : A) → slice_set (slice_set xs at y) at z ≡ slice_set xs at z
+set-twice [] at y z = refl
+set-twice (x ∷ xs) zero y z = refl
+set-twice {A = A} (x ∷ xs) (suc at) y z = ap (λ (rest : List A). x ∷ rest) (set-twice xs at y z)
+
 -- ---- Places at the end, and empty ones in front
 
 pub somes-push : {A : Type 0} (places : List (Option A)) (x : A) → somes (places ++ Some x ∷ []) ≡ somes places ++ x ∷ []
@@ -78,10 +95,23 @@ somes-push [] x = refl
 somes-push (None ∷ places) x = somes-push places x
 somes-push {A = A} (Some y ∷ places) x = ap (λ (rest : List A). y ∷ rest) (somes-push places x)
 
--- what stands behind empty places is all that there is
-pub somes-behind : {A : Type 0} (places : List (Option A)) (n : ℕ) → ((at : ℕ) → at < n → slice_get places at ≡ Some None)
-    → somes (drop n places) ≡ somes places
-somes-behind places zero empty = refl
-somes-behind [] (suc n) empty = refl
-somes-behind (None ∷ places) (suc n) empty = somes-behind places n (λ at less. empty (suc at) (omega (arith, less)))
-somes-behind (Some x ∷ places) (suc n) empty = absurd (let clash = empty 0 (omega arith) in cc)
+-- where all places are empty there is nothing
+pub somes-none : {A : Type 0} (places : List (Option A)) → ((at : ℕ) → at < length places → slice_get places at ≡ Some None) → somes places ≡ []
+somes-none [] empty = refl
+somes-none (None ∷ places) empty = somes-none places (λ at less. empty (suc at) (omega (arith, less)))
+somes-none (Some x ∷ places) empty = absurd (let clash = empty 0 (omega arith) in cc)
+
+-- what stands behind empty places is the first that there is
+pub record Begins {A : Type 0} (all : List A) (x : A) : Type 0 where
+  pub rest : List A
+  pub is : all ≡ x ∷ rest
+
+pub somes-begin : {A : Type 0} (places : List (Option A)) (at : ℕ) (x : A) → ((k : ℕ) → k < at → slice_get places k ≡ Some None)
+    → slice_get places at ≡ Some (Some x) → Begins (somes places) x
+somes-begin [] at x empty found = absurd (cc)
+somes-begin (None ∷ places) zero x empty found = absurd (cc)
+somes-begin (None ∷ places) (suc at) x empty found = somes-begin places at x (λ k less. empty (suc k) (omega (arith, less))) found
+somes-begin {A = A} (Some y ∷ places) zero x empty found =
+    let same : y ≡ x = cc in
+    record { rest = somes places; is = ap (λ (z : A). z ∷ somes places) same }
+somes-begin (Some y ∷ places) (suc at) x empty found = absurd (let clash = empty 0 (omega arith) in cc)

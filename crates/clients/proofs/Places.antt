@@ -1,5 +1,5 @@
 -- The places of pushed calls and the index of their callers.
-use Rattle.std.specs.Prelude.{◌==◌, ◌&&◌, slice_get, slice_set, if◌then◌else◌}
+use Rattle.std.specs.Prelude.{◌==◌, ◌&&◌, slice_get, slice_index_or, slice_set, if◌then◌else◌}
 use Rattle.std.specs.HashMap.{get}
 use Rattle.std.proofs.Common.{◌≡◌, ◌≢◌, ◌<◌, ◌≤◌, ◌⊎◌, ℕ, zero, suc, Bool, true, false, List, [], ◌∷◌, ◌++◌, length, Option, Some, None, inl, inr, refl, ap, sym, ◌∙◌, subst, eq-eqb, arith}
 use Rattle.std.proofs.lemmas.Bool.{and_parts, eqb-true}
@@ -9,9 +9,9 @@ use Rattle.journal.specs.Folds.{same_caller}
 use Rattle.clients.specs.declared.callers.Callers.{Callers}
 use Rattle.clients.specs.First.{first_of, with_first, without_first}
 use Rattle.clients.specs.Numbering.{number_of, same_numbers}
-use Rattle.clients.specs.Placing.{ArePlaced, StandsAt, somes}
+use Rattle.clients.specs.Placing.{ArePlaced, BeginsWith, EmptyBelow, StandsAt, somes}
 use Rattle.clients.specs.Pushed.{Pushed, is_callers}
-use Rattle.clients.proofs.Firsts.{IsFirst, NonePass, first-found, first-with, first-without, none-first, somes-push}
+use Rattle.clients.proofs.Firsts.{IsFirst, NonePass, first-found, first-with, first-without, none-first, somes-begin}
 
 -- ---- Callers
 
@@ -53,7 +53,7 @@ pub alike : (k at : ℕ) → (k ≡ at) ⊎ (k ≢ at)
 alike zero zero = inl refl
 alike zero (suc at) = inr (λ same. omega arith)
 alike (suc k) zero = inr (λ same. omega arith)
-alike (suc k) (suc at) = elim (alike k at) [ | inl same ↦ inl (ap suc same) | inr apart ↦ inr (λ same. apart (omega arith)) ]
+alike (suc k) (suc at) = elim (alike k at) [ inl same ↦ inl (ap suc same) | inr apart ↦ inr (λ same. apart (omega arith)) ]
 
 -- ---- What the index says of the list
 
@@ -90,7 +90,7 @@ first-at places index first caller at are is =
 
 -- ---- What becomes of the places
 
-small-get : {A : Type 0} (xs : List A) (at : ℕ) (x : A) → slice_get xs at ≡ Some x → at < length xs
+pub small-get : {A : Type 0} (xs : List A) (at : ℕ) (x : A) → slice_get xs at ≡ Some x → at < length xs
 small-get [] at x found = absurd (cc)
 small-get (y ∷ xs) zero x found = omega arith
 small-get (y ∷ xs) (suc at) x found = let less = small-get xs at x found in omega (arith, less)
@@ -138,6 +138,15 @@ none-by places index first caller (Some at) are free is = absurd (
 number-none : (places : List (Option Pushed)) (index : Callers) (first : ℕ) (caller : Caller) → ArePlaced places index first
     → first_of (is_callers caller) (somes places) ≡ None → number_of index caller ≡ None
 number-none places index first caller are free = none-by places index first caller (number_of index caller) are free refl
+
+-- an index that tells the same
+pub placed-alike : (places : List (Option Pushed)) (index after : Callers) (first : ℕ) → ArePlaced places index first
+    → ((caller : Caller) → number_of after caller ≡ number_of index caller) → ArePlaced places after first
+placed-alike places index after first are same = record {
+  there = λ caller at is. are.there caller at (sym (same caller) ∙ is);
+  known = λ at pushed found. same pushed.call.caller ∙ are.known at pushed found;
+  empty = are.empty;
+}
 
 -- the first call of a caller is pushed
 pub placed-more : (places : List (Option Pushed)) (index after : Callers) (first : ℕ) (pushed : Pushed)
@@ -270,3 +279,56 @@ placed-with places index first caller at next are is called =
         | inr apart ↦ get-set-other places at k (Some next) apart ∙ are.empty k less
       ];
     }
+
+-- ---- A caller's call in its place
+
+-- what is kept at a place, as code reads it
+pub get-at : {A : Type 0} (xs : List A) (at : ℕ) (x past : A) → slice_get xs at ≡ Some x → slice_index_or xs at past ≡ x
+get-at [] at x past found = absurd (cc)
+get-at (y ∷ xs) zero x past found = cc
+get-at (y ∷ xs) (suc at) x past found = get-at xs at x past found
+
+-- the caller's call stands at the place that the index tells
+pub record IsKept (places : List (Option Pushed)) (caller : Caller) (at : ℕ) : Type 0 where
+  pub pushed : Pushed
+  pub small : at < length places
+  pub first : IsFirst (is_callers caller) places at pushed
+  pub found : first_of (is_callers caller) (somes places) ≡ Some pushed
+
+pub kept-at : (places : List (Option Pushed)) (index : Callers) (first : ℕ) (caller : Caller) (at : ℕ) → ArePlaced places index first
+    → number_of index caller ≡ Some at → IsKept places caller at
+kept-at places index first caller at are is =
+    let stands = first-at places index first caller at are is in
+    let pushed = (are.there caller at is).pushed in
+    record {
+      pushed = pushed;
+      small = small-get places at (Some pushed) stands.found;
+      first = stands;
+      found = first-found (is_callers caller) places at pushed stands;
+    }
+
+pub not-some : {A : Type 0} (found : Option A) → ((a : A) → found ≡ Some a → ⊥) → found ≡ None
+not-some None apart = refl
+not-some (Some a) apart = absurd (apart a refl)
+
+-- the caller's call is at its place as it is in the list
+pub one-kept : (places : List (Option Pushed)) (caller : Caller) (at : ℕ) (now : List Pushed) (call : Pushed) (kept : IsKept places caller at)
+    → somes places ≡ now → first_of (is_callers caller) now ≡ Some call → kept.pushed ≡ call
+one-kept places caller at now call kept is found =
+    let both : Some kept.pushed ≡ Some call = sym kept.found ∙ ap (first_of (is_callers caller)) is ∙ found in cc
+
+-- the first call that there is
+pub begins-at : (places : List (Option Pushed)) (at : ℕ) (call : Pushed) → EmptyBelow places at → slice_get places at ≡ Some (Some call)
+    → BeginsWith (somes places) call.call.caller
+begins-at places at call empty found =
+    let begins = somes-begin places at call empty found in
+    record { front = call; rest = begins.rest; is = begins.is; own = refl }
+
+-- another state of the call that is kept there
+pub placed-kept : (places : List (Option Pushed)) (index : Callers) (first : ℕ) (caller : Caller) (at : ℕ) (next : Pushed)
+    → ArePlaced places index first → number_of index caller ≡ Some at → (kept : IsKept places caller at) → next.call ≡ kept.pushed.call
+    → ArePlaced (slice_set places at (Some next)) index first
+placed-kept places index first caller at next are is kept called =
+    let both : Some (Some kept.pushed) ≡ Some (Some (are.there caller at is).pushed) = sym kept.first.found ∙ (are.there caller at is).found in
+    let one : kept.pushed ≡ (are.there caller at is).pushed = cc in
+    placed-with places index first caller at next are is (called ∙ ap (λ (p : Pushed). p.call) one)

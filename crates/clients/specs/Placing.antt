@@ -11,6 +11,10 @@ somes [] = []
 somes (None ∷ places) = somes places
 somes (Some x ∷ places) = x ∷ somes places
 
+-- the places before this one are empty
+abbrev pub EmptyBelow : List (Option Pushed) → ℕ → Type 0
+EmptyBelow places first = (at : ℕ) → at < first → slice_get places at ≡ Some None
+
 -- a call of the caller stands at the place
 pub record StandsAt (caller : Caller) (places : List (Option Pushed)) (at : ℕ) : Type 0 where
   pub pushed : Pushed
@@ -22,7 +26,7 @@ pub record ArePlaced (places : List (Option Pushed)) (index : Callers) (first : 
   pub there : (caller : Caller) (at : ℕ) → number_of index caller ≡ Some at → StandsAt caller places at
   pub known : (at : ℕ) (pushed : Pushed) → slice_get places at ≡ Some (Some pushed)
       → number_of index pushed.call.caller ≡ Some at
-  pub empty : (at : ℕ) → at < first → slice_get places at ≡ Some None
+  pub empty : EmptyBelow places first
 
 -- the list begins with a call of the caller
 pub record BeginsWith (calls : List Pushed) (caller : Caller) : Type 0 where

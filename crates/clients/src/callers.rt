@@ -1,4 +1,4 @@
-ghost use Rattle.std.specs.Prelude.{◌≡◌, OnOk, Some, None, if◌then◌else◌};
+ghost use Rattle.std.specs.Prelude.{◌≡◌, OnOk, OnErr, Some, None, if◌then◌else◌};
 ghost use Rattle.sp_base.specs.declared.numbers.Caller.{Caller};
 ghost use Rattle.journal.specs.Folds.{same_caller};
 ghost use Rattle.clients.specs.Numbering.{number_of};
@@ -32,10 +32,11 @@ impl Callers {
         Some(number)
     }
 
-    /// Gives a caller a number.
+    /// Gives a caller a number. Without memory nothing changes.
     pub fn add(&mut self, caller: Caller, number: u64) -> Result<(), Memory>
-        ensures { OnOk result ((other : Caller) → number_of self.new other ≡
+        ensures ok { OnOk result ((other : Caller) → number_of self.new other ≡
             (if same_caller caller other then Some number else number_of self.old other)) }
+        ensures err { OnErr result ((other : Caller) → number_of self.new other ≡ number_of self.old other) }
     {
         let key = (caller.tenant.0, caller.number);
         self.numbers.insert(key, number)?;

@@ -1,8 +1,8 @@
-ghost use Rattle.std.specs.Prelude.{◌≡◌, ◌↔◌, IsTrue, [], ◌∷◌, ◌++◌, None, Some, IfSome, OnOk, MatchOption};
-ghost use Rattle.std.specs.Option.{option_copied};
+ghost use Rattle.std.specs.Prelude.{◌≡◌, ◌↔◌, IsTrue, [], ◌∷◌, ◌++◌, None, Some, ◌<◌, length, slice_get, IfSome, OnOk, MatchOption};
+ghost use Rattle.std.specs.Option.{option_copied, option_map};
 ghost use Rattle.sp_base.specs.Spelling.{FitsOpt};
 ghost use Rattle.clients.specs.First.{first_of, without_first, with_first};
-ghost use Rattle.clients.specs.Placing.{BeginsWith};
+ghost use Rattle.clients.specs.Placing.{BeginsWith, EmptyBelow};
 ghost use Rattle.clients.specs.Pushed.{Pushed, WantsAt, is_callers, joined, meant};
 
 use crate::callers::Callers;
@@ -106,7 +106,9 @@ impl PushedCalls {
         ensures call { result ≡ first_of (is_callers caller) self.old }
         ensures left { self.new ≡ without_first (is_callers caller) self.old }
     {
-        let place = self.places.number(caller)?;
+        let Some(place) = self.places.number(caller) else {
+            return None;
+        };
         self.places.remove(caller);
         self.calls[place as usize].take()
     }
@@ -116,24 +118,44 @@ impl PushedCalls {
         ensures caller { MatchOption result (self.old ≡ []) (BeginsWith self.old) }
         ensures same { self.new ≡ self.old }
     {
-        while self.first < self.calls.len() {
-            if let Some(call) = &self.calls[self.first] {
-                return Some(call.call().caller);
-            }
-            self.first += 1;
+        let place = first_full(self.calls.as_slice(), self.first);
+        self.first = place;
+        if place >= self.calls.len() {
+            return None;
         }
-        None
+        caller_of(&self.calls[place])
     }
 
     /// Whether no call is pushed.
     pub fn is_empty(&self) -> bool
         ensures { IsTrue result ↔ (self.now ≡ []) }
     {
-        for call in &self.calls {
-            if call.is_some() {
-                return false;
-            }
-        }
-        true
+        first_full(self.calls.as_slice(), self.first) >= self.calls.len()
     }
+}
+
+/// The caller of the call at a place.
+fn caller_of(place: &Option<PushedCall>) -> Option<Caller>
+    ensures { result ≡ option_map (λ call. call.call.caller) place.now }
+{
+    match place {
+        Some(call) => Some(call.call().caller),
+        None => None,
+    }
+}
+
+/// The first place from here on that is not empty, or one past all of them.
+fn first_full(calls: &[Option<PushedCall>], from: usize) -> usize
+    requires { EmptyBelow calls.now «from» }
+    ensures empty { EmptyBelow calls.now result }
+    ensures full { result < length calls.now → (call : Pushed) × (slice_get calls.now result ≡ Some (Some call)) }
+{
+    let mut place = from;
+    while place < calls.len() {
+        if calls[place].is_some() {
+            return place;
+        }
+        place += 1;
+    }
+    place
 }

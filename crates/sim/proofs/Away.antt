@@ -172,11 +172,11 @@ total-with weight passes pushed queues live next found =
     omega (arith, sums, before, after)
 
 -- the record joins its reads
-pub fetch-tells : (old new : Sim) (caller : Caller) (number : CallNo) (call : Pushed) (table : TableId) (key : List ℕ) (line : Line)
+pub fetch-tells : (old new : Sim) (caller : Caller) (number : CallNo) (call : Pushed) (table : TableId) (key : List ℕ) (answer : Line)
     → first_of (is_callers caller) old.pushed ≡ Some call → number ≡ call.call.number → WantsAt (meant call) table key
-    → HasFetched old new caller number call table key line → Tells old new (λ state. away_event state caller) line
-fetch-tells old new caller number call table key line found named wants fetched =
-    tells-by old new (λ state. away_event state caller) line (λ (state : SimState) (at : StandsAt old state).
+    → HasFetched old new caller number call table key answer → Tells old new (λ state. away_event state caller) answer
+fetch-tells old new caller number call table key answer found named wants fetched =
+    tells-by old new (λ state. away_event state caller) answer (λ (state : SimState) (at : StandsAt old state).
     let own = found-in old state caller call at found in
     let live : Live = own.live in
     let Holds : Live → Type 0 = IsLive state.grants state.journal in

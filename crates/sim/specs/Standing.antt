@@ -186,9 +186,9 @@ pub record Fetches (sim : Sim) (caller : Caller) (table : TableId) (key : List �
   pub readable : IsTrue (can_read (granted sim.book.grants journal caller.tenant) table.0)
 
 -- the record joined the call's reads, and the call kept its place
-pub record HasFetched (old new : Sim) (caller : Caller) (number : CallNo) (call : Pushed) (table : TableId) (key : List ℕ) (line : Line) : Type 0 where
+pub record HasFetched (old new : Sim) (caller : Caller) (number : CallNo) (call : Pushed) (table : TableId) (key : List ℕ) (answer : Line) : Type 0 where
   pub told : (journal : List Entry) → StandsFor old.book journal
-      → line ≡ line.Of caller number (said.Read table key (item_at journal table key).version false) false
+      → answer ≡ line.Of caller number (said.Read table key (item_at journal table key).version false) false
   pub left : (journal : List Entry) → StandsFor old.book journal
       → new ≡ record old { pushed = with_first (is_callers caller) (joined call (item_at journal table key)) old.pushed }
 

@@ -58,7 +58,9 @@ impl Queues {
         ensures { MatchOption result (TakesNothing self.old self.new worker) (Takes self.old self.new worker) }
     {
         let queue = &mut self.queues[worker as usize];
-        let task = queue.pop()?;
+        let Some(task) = queue.pop() else {
+            return None;
+        };
         self.load -= 1;
         Some(task)
     }
