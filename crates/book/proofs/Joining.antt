@@ -10,7 +10,6 @@ use Rattle.sp_base.specs.declared.writes.Write.{Write}
 use Rattle.sp_base.specs.Limits.{IsArguments}
 use Rattle.sp_base.specs.Places.{Place, same_place}
 use Rattle.sp_base.specs.RightsList.{can_read}
-use Rattle.ext_mean.specs.declared.run.Run.{Run}
 use Rattle.ext_mean.specs.declared.tree.Program.{Program}
 use Rattle.ext_mean.specs.Asked.{AreAsked, IsComplete}
 use Rattle.ext_mean.specs.Meaning.{mean}
@@ -20,13 +19,11 @@ use Rattle.records.specs.GrantsList.{GrantsList, RightsList}
 use Rattle.journal.specs.declared.entry.Entry.{Entry}
 use Rattle.journal.specs.Folds.{value_at}
 use Rattle.journal.specs.Granted.{granted}
-use Rattle.journal.specs.Legal.{CallIsWithin}
 use Rattle.journal.specs.Reads.{IsCurrent, IsHeld, bare, valued}
-use Rattle.journal.specs.Sizes.{InvokeFits}
 use Rattle.journal.proofs.Committing.{run-fits, run-legal, run-within}
 use Rattle.journal.proofs.TrueReads.{held-current}
 use Rattle.journal.proofs.Versions.{valued-record}
-use Rattle.book.specs.Standing.{IsAudited, IsSent, IsTrueTo, MayJoin, RanOn, SentOn}
+use Rattle.book.specs.Standing.{IsAudited, IsTrueTo, MayJoin, RanOn, SentOn}
 use Rattle.book.specs.Verdict.{entry_of, sent_entry}
 
 -- the value of a held read's version, which still stands, is the read's

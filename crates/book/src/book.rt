@@ -348,7 +348,8 @@ impl Book {
 
     /// Commits a run that may join the journal, wherever it ended.
     fn judge(&mut self, ended: Ended) -> Commit
-        requires joins { MayJoin self.old.grants self.old.audit self.old.journal (entry_in ended) ended.reads }
+        requires joins { (journal : List Entry) → StandsFor self.old journal
+            → MayJoin self.old.grants self.old.audit journal (entry_in ended) ended.reads }
         ensures answer { (result ≡ Commit.Memory)
             ⊎ (result ≡ verdict self.old.limit self.old.journal ended.call (entry_in ended) ended.outcome ended.reads) }
         ensures book { self.new ≡ record self.old { journal = after_commit result self.old.journal (entry_in ended) } }

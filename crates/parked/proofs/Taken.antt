@@ -1,7 +1,7 @@
 -- What is not refused has the shape of a run, and its tables may be written.
 use Rattle.std.specs.Prelude.{◌≢◌, ◌||◌, IsTrue, map, nat_lt, if◌then◌else◌}
 use Rattle.std.specs.List.{AllByRecursion, IsDistinct, list_any}
-use Rattle.std.proofs.Common.{◌≡◌, ◌≤◌, ℕ, Bool, true, false, List, [], ◌∷◌, length, Option, Some, None, refl, arith}
+use Rattle.std.proofs.Common.{◌≡◌, ◌≤◌, Bool, true, false, List, [], ◌∷◌, length, Option, Some, None, refl}
 use borrow.Author.Tests.{ltb-false}
 use Rattle.sp_base.specs.Places.{Place, same_place}
 use Rattle.sp_base.specs.RightsList.{can_write}

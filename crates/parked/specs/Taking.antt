@@ -1,5 +1,5 @@
 -- When what a client sent for its parked call is taken, and why it is refused.
-use Rattle.std.specs.Prelude.{ℕ, Bool, true, false, ◌||◌, List, [], ◌∷◌, length, map, nat_lt, Option, Some, None, if◌then◌else◌}
+use Rattle.std.specs.Prelude.{Bool, true, false, ◌||◌, List, [], ◌∷◌, length, map, nat_lt, Option, Some, None, if◌then◌else◌}
 use Rattle.std.specs.List.{list_any}
 use Rattle.sp_base.specs.Places.{Place, same_place}
 use Rattle.sp_base.specs.RightsList.{can_write}

@@ -29,11 +29,7 @@ fn refusal(rights: &Rights, outcome: &Outcome, writes: &[Write]) -> Option<Refus
 
 /// Takes what a client sent as the end of its parked call, where its shape and its tables allow it.
 /// What is refused gives the parked call back. No memory is needed.
-pub fn accept(
-    parked: Parked,
-    rights: &Rights,
-    finish: Finish,
-) -> Result<Sent, (Refused, Parked)>
+pub fn accept(parked: Parked, rights: &Rights, finish: Finish) -> Result<Sent, (Refused, Parked)>
     // A refusal is the first of what the end may be refused for, and comes exactly where there is one.
     ensures ok { OnOk result (refusal_of rights.now finish.outcome finish.writes ≡ None) }
     ensures refused { IfErr result (λ refused. refusal_of rights.now finish.outcome finish.writes ≡ Some refused.0) }

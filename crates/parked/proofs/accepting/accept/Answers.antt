@@ -1,7 +1,7 @@
 -- What is not refused has the shape of a run, and its tables may be written.
-use Rattle.std.proofs.Common.{◌≡◌, None, sym, ◌∙◌}
+use Rattle.std.proofs.Common.{◌≡◌, None}
 use Rattle.parked.specs.Taking.{refusal_of}
-use Rattle.parked.proofs.Taken.{IsTaken, taken}
+use Rattle.parked.proofs.Taken.{taken}
 use Rattle.parked.proofs.accepting.accept.Goals as goal
 
 pub invariant_of-result : goal.invariant_of-result

@@ -10,6 +10,6 @@ append-requires-clause-sound c =
     let ended = c.args.ended in
     let book = c.args.self.now in
     let joins = c.requires.joins in
-    rw c.into_entry.ensures
+    rw c.into_entry-entry.ensures
     (sound-grown _ _ _ _ _ (own-sound c.journal.ensures) (search rules) joins.fits
     (joins.sound (unmoved-current book.journal ended.reads c.requires.still)) c.requires.in_order joins.within)
