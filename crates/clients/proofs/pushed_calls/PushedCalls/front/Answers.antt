@@ -9,7 +9,7 @@ use Rattle.clients.proofs.Firsts.{somes-none}
 use Rattle.clients.proofs.Places.{begins-at, get-at}
 use Rattle.clients.proofs.pushed_calls.PushedCalls.front.Goals as goal
 
-pub returns-then-place-len-clause-caller : goal.returns-then-place-gteq-len-clause-caller
+pub returns-then-place-len-clause-caller : goal.returns-then-place-len-clause-caller
 returns-then-place-len-clause-caller c =
     let items = c.self.inside.calls.items in
     let place = c.first_full-place.result in
