@@ -11,7 +11,7 @@ pub mod Ending
 pub mod Opening
 pub mod Moving
 pub mod Turning
-pub mod Away
+pub mod AtClients
 pub mod Busy
 pub mod Eventing
 pub mod Drain

@@ -1,13 +1,13 @@
 -- A simulation that has not begun.
 use Rattle.std.specs.List.{sum_by}
-use Rattle.std.proofs.Common.{◌≡◌, ℕ, zero, suc, length, [], ◌∷◌, Option, None, refl, sym, subst, arith}
+use Rattle.std.proofs.Common.{◌≡◌, ℕ, zero, suc, [], ◌∷◌, Option, None, refl, sym, subst, arith}
 use Rattle.std.proofs.lemmas.List.Sums.{sum_by-cons}
 use Rattle.sp_base.specs.declared.numbers.Caller.{Caller}
 use Rattle.task.specs.Turning.{Live}
 use Rattle.clients.specs.declared.callers.Callers.{Callers}
 use Rattle.clients.specs.Numbering.{number_of}
 use Rattle.sim.specs.Counting.{AllLive, Indexes, PointsTo, is_of, number_in, total}
-use Rattle.sim.specs.Play.{idle_workers, load_of}
+use Rattle.sim.specs.Play.{idle_workers}
 
 total-idle : (weight : Live → ℕ) (workers : ℕ) → total weight (idle_workers workers) ≡ 0
 total-idle weight zero = refl
@@ -27,11 +27,3 @@ indexes-idle callers workers none caller =
 pub all-idle : (Holds : Live → Type 0) (workers : ℕ) → AllLive Holds (idle_workers workers)
 all-idle Holds zero = tt
 all-idle Holds (suc workers) = (tt, all-idle Holds workers)
-
--- nor has any worker a call that counts in the load
-pub load-idle : (workers : ℕ) → load_of (idle_workers workers) ≡ 0
-load-idle zero = refl
-load-idle (suc workers) =
-    let sums = sum_by-cons length [] (idle_workers workers) in
-    let rest = load-idle workers in
-    omega (arith, sums, rest)

@@ -106,14 +106,12 @@ impl Sim {
         ensures falls { IfOk result (λ told. IfSome told (λ _. units_left self.new < units_left self.old)) }
         ensures workers { OnOk result (workers_of self.new ≡ workers_of self.old) }
     {
-        match self.queues.busy(self.next) {
-            Some(worker) => {
-                self.next = worker + 1;
-                let line = self.turn(worker, DRAIN_QUANTUM)?;
-                Ok(Some(line))
-            }
-            None => self.next_away(),
-        }
+        let Some(worker) = self.queues.busy(self.next) else {
+            return self.next_away();
+        };
+        self.next = worker + 1;
+        let line = self.turn(worker, DRAIN_QUANTUM)?;
+        Ok(Some(line))
     }
 
     /// The call that was pushed first goes on at its client, where one is pushed.

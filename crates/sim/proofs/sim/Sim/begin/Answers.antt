@@ -28,6 +28,6 @@ returns-clause-told c =
     (sym c.number.ensures ∙ not-some c.number.result c.in_default.not-Some)
     (λ journal stands. sym (c.in_ok-ext.ensures journal stands) ∙ ap (option_map text_of) c.in-Some-2.is)
     (subst (λ (e : ExtValue). IsAccepted e.text e.program) c.deref.ensures c.program-accepted.ensures.accepted)
-    c.in_ok-rights.ensures c.in_ok-add.ensures refl refl refl refl
+    c.in_ok-rights.ensures c.in_ok-add.ensures.ok refl refl refl refl
     (c.in_ok-put-in-Ok.ensures ∙ ap (λ (live : Live). with_back c.args.self.now.queues c.args.worker live) c.in-Ok.ensures.ok)
     c.line_of-line.ensures

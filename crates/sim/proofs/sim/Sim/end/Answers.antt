@@ -24,15 +24,15 @@ returns c =
       writes = done.writes;
       ended = c.finish-done.ensures.ended;
       is = record {
-      told = λ journal stands. end-said done.call live.call c.commit.result _ c.in_ok-said.said c.finish-done.ensures.call (is journal stands) c.in_ok-said.ensures.said;
-      book = λ journal stands. end-book Server c.commit.new.self journal done.call live.call done.reads live.reads done.outcome done.writes c.commit.result _
-          c.finish-done.ensures.call c.finish-done.ensures.reads (is journal stands) (c.commit.ensures.stands journal stands);
-      fixed = c.commit.ensures.fixed;
-      policy = refl;
-      queues = refl;
-      pushed = refl;
-      next = refl;
-      callers = λ caller. c.remove.ensures caller
-          ∙ ap (λ (call : Call). if same_caller call.caller caller then None else number_of c.args.self.now.callers caller) c.finish-done.ensures.call;
+        told = λ journal stands. end-said done.call live.call c.commit.result _ c.in_ok-said.said c.finish-done.ensures.call (is journal stands) c.in_ok-said.ensures.said;
+        book = λ journal stands. end-book Server c.commit.new.self journal done.call live.call done.reads live.reads done.outcome done.writes c.commit.result _
+            c.finish-done.ensures.call c.finish-done.ensures.reads (is journal stands) (c.commit.ensures.stands journal stands);
+        fixed = c.commit.ensures.fixed;
+        policy = refl;
+        queues = refl;
+        pushed = refl;
+        next = refl;
+        callers = λ caller. c.remove.ensures caller
+            ∙ ap (λ (call : Call). if same_caller call.caller caller then None else number_of c.args.self.now.callers caller) c.finish-done.ensures.call;
       };
     }

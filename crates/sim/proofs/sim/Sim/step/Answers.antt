@@ -24,4 +24,9 @@ returns-in-Away-clause-played c =
 pub returns-in-Cut-clause-played : goal.returns-in-Cut-clause-played
 returns-in-Cut-clause-played c =
     if-ok-map c.cut.result _ _ (λ line tells. subst (λ (e : Event). Played c.args.self.now c.cut.new.self e line) (sym c.in-Cut.is)
-    (record { judgement = Nothing; judged = refl; tells = rw c.caller_of-2.ensures at tells })) c.cut.ensures.told
+    (record { judgement = Nothing; judged = refl; tells = rw c.caller_of-in-Cut.ensures at tells })) c.cut.ensures.told
+
+pub returns-in-Begin-clause-played : goal.returns-in-Begin-clause-played
+returns-in-Begin-clause-played c =
+    if-ok-map c.begin.result _ _ (λ line tells. subst (λ (e : Event). Played c.args.self.now c.begin.new.self e line) (sym c.in-Begin.is)
+    (record { judgement = Nothing; judged = refl; tells = rw c.call_of.ensures at tells })) c.begin.ensures.told

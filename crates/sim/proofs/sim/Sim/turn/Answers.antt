@@ -34,8 +34,8 @@ pub returns-in-Ran-clause-told : goal.returns-in-Ran-clause-told
 returns-in-Ran-clause-told c =
     let some : c.turn.result ≢ told.Memory = λ memory. (let clash : told.Ran ≡ told.Memory = sym c.in-Ran.is ∙ memory in cc) in
     let ready : c.turn.new.self.phase ≡ phase.Ready = ran-ready c.turn.new.self.phase (sym c.in-Ran.is ∙ c.turn.ensures.told some) in
-    if-ok-map c.go_on.result _ _ (λ line goes. goes-tells c.args.self.now c.go_on.new.self c.take.new.self c.args.worker c.args.quantum c.load.result
-    c.in-Some.task c.turn.new.self line c.requires.worker c.load.ensures c.in-Some.ensures (c.turn.ensures.turn some) ready goes) c.go_on.ensures
+    if-ok-map c.go_on.result _ _ (λ line goes. goes-tells c.args.self.now c.go_on.new.self c.take.new.self c.args.worker c.args.quantum c.load-load.result
+    c.in-Some.task c.turn.new.self line c.requires.worker c.load-load.ensures c.in-Some.ensures (c.turn.ensures.turn some) ready goes) c.go_on.ensures
 
 pub returns-in-Ran-clause-falls : goal.returns-in-Ran-clause-falls
 returns-in-Ran-clause-falls c =
@@ -45,7 +45,7 @@ returns-in-Ran-clause-falls c =
     let more = spends-more c.in-Some.task c.turn.new.self c.args.quantum c.spent-kept.ensures.kept
     (ready-of c.args.self.now c.requires.stands c.take.new.self c.args.worker c.in-Some.task c.in-Some.ensures) c.requires.quantum is
     (subst (λ (p : Phase). On p) (sym ready) tt) in
-    on-ok-map c.go_on.result _ _ (λ line goes. λ queue. goes-falls c.args.self.now c.go_on.new.self c.take.new.self c.args.worker c.load.result
+    on-ok-map c.go_on.result _ _ (λ line goes. λ queue. goes-falls c.args.self.now c.go_on.new.self c.take.new.self c.args.worker c.load-load.result
     c.in-Some.task c.turn.new.self (said.On c.turn.new.self.spent) line c.requires.worker c.in-Some.ensures
     (ap (λ (l : Live). l.call) is ∙ turned-call c.in-Some.task c.args.quantum) more.more more.within goes) c.go_on.ensures
 
@@ -54,8 +54,8 @@ returns-in-Wants-clause-told c =
     let some : c.turn.result ≢ told.Memory = λ memory. (let clash : told.Wants c.in-Wants.table c.in-Wants.key ≡ told.Memory = sym c.in-Wants.is ∙ memory in cc) in
     let waits : c.turn.new.self.phase ≡ phase.Waiting c.in-Wants.table c.in-Wants.key =
     wants-waits c.turn.new.self.phase c.in-Wants.table c.in-Wants.key (sym c.in-Wants.is ∙ c.turn.ensures.told some) in
-    if-ok-map c.read.result _ _ (λ line reads. reads-tell c.args.self.now c.read.new.self c.take.new.self c.args.worker c.args.quantum c.load.result
-    c.in-Some.task c.turn.new.self c.in-Wants.table c.in-Wants.key line c.requires.worker c.load.ensures c.in-Some.ensures (c.turn.ensures.turn some) waits reads) c.read.ensures
+    if-ok-map c.read.result _ _ (λ line reads. reads-tell c.args.self.now c.read.new.self c.take.new.self c.args.worker c.args.quantum c.load-load.result
+    c.in-Some.task c.turn.new.self c.in-Wants.table c.in-Wants.key line c.requires.worker c.load-load.ensures c.in-Some.ensures (c.turn.ensures.turn some) waits reads) c.read.ensures
 
 pub returns-in-Wants-clause-falls : goal.returns-in-Wants-clause-falls
 returns-in-Wants-clause-falls c =
@@ -67,7 +67,7 @@ returns-in-Wants-clause-falls c =
     (ready-of c.args.self.now c.requires.stands c.take.new.self c.args.worker c.in-Some.task c.in-Some.ensures) c.requires.quantum is
     (subst (λ (p : Phase). On p) (sym waits) tt) in
     let item : ReadItem = item_at c.requires.stands.state.journal c.in-Wants.table c.in-Wants.key in
-    on-ok-map c.read.result _ _ (λ line reads. λ queue. goes-falls c.args.self.now c.read.new.self c.take.new.self c.args.worker c.load.result
+    on-ok-map c.read.result _ _ (λ line reads. λ queue. goes-falls c.args.self.now c.read.new.self c.take.new.self c.args.worker c.load-load.result
     c.in-Some.task (given c.turn.new.self item) (said.Read c.in-Wants.table c.in-Wants.key item.version) line c.requires.worker c.in-Some.ensures
     (ap (λ (l : Live). l.call) is ∙ turned-call c.in-Some.task c.args.quantum) more.more more.within
     (reads c.requires.stands.state.journal c.requires.stands.at.book)) c.read.ensures

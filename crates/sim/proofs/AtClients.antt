@@ -13,21 +13,29 @@ use Rattle.sp_base.specs.declared.outcomes.Outcome.TheVariants as outcome
 use Rattle.sp_base.specs.declared.reads.ReadItem.{ReadItem}
 use Rattle.sp_base.specs.declared.rights.Level.{Level}
 use Rattle.sp_base.specs.declared.writes.Write.{Write}
+use Rattle.sp_base.specs.Limits.{IsArguments}
 use Rattle.sp_base.specs.RightsList.{can_read}
+use Rattle.rw_set.specs.declared.sent.Sent.{Sent}
 use Rattle.ext_mean.specs.declared.run.Run.{Run}
 use Rattle.ext_mean.specs.declared.run.Run.TheVariants as run
-use Rattle.ext_mean.specs.Outcomes.{EndsWith}
+use Rattle.ext_mean.specs.declared.tree.Program.{Program}
+use Rattle.ext_mean.specs.Meaning.{mean}
+use Rattle.ext_mean.specs.Outcomes.{ChangeFits, EndsWith, ReplyFits}
 use Rattle.ext_mean.specs.Views.{part}
+use Rattle.ext_mean.proofs.ConfinementProved.{within-limits}
 use Rattle.ext_mean.proofs.WantsProved.{are-due}
 use Rattle.records.specs.GrantsList.{GrantsList}
 use Rattle.journal.specs.declared.entry.Entry.{Entry}
 use Rattle.journal.specs.declared.entry.Home.TheVariants.{Client}
 use Rattle.journal.specs.Folds.{same_caller}
 use Rattle.journal.specs.Granted.{granted}
-use Rattle.book.specs.Standing.{BookValue, RanOn, StandsFor}
+use Rattle.journal.specs.Reads.{bare}
+use Rattle.journal.proofs.Committing.{run-within}
+use Rattle.book.specs.Standing.{BookValue, IsTrueTo, RanOn, SentOn, StandsFor}
 use Rattle.book.specs.Verdict.{item_at}
+use Rattle.clients.specs.Numbering.{number_of}
 use Rattle.clients.specs.First.{first_of, with_first, without_first}
-use Rattle.clients.specs.Pushed.{HasEnd, IsWanted, Pushed, WantsAt, is_callers, joined, meant, pushed_of}
+use Rattle.clients.specs.Pushed.{HasEnd, IsCarried, IsTrueEnd, IsWanted, Pushed, WantsAt, is_callers, joined, meant, pushed_of}
 use Rattle.report.specs.declared.line.Line.{Line}
 use Rattle.report.specs.declared.line.Line.TheVariants as line
 use Rattle.report.specs.declared.line.Said.TheVariants as said
@@ -196,7 +204,7 @@ fetch-tells old new caller number call table key answer found named wants fetche
     let is : IsLive state.grants state.journal next = record { ready = refl; ran = ran } in
     let kept : joined call item ≡ pushed_of next = ap (λ (p : Pushed). joined p item) own.is in
     let left : StandsAt (record old { pushed = with_first (is_callers caller) (joined call item) old.pushed })
-        (with_pushed state (with_first (is_call_of caller) next state.pushed)) = record {
+    (with_pushed state (with_first (is_call_of caller) next state.pushed)) = record {
       book = at.book;
       grants = at.grants;
       policy = at.policy;
@@ -284,6 +292,55 @@ finish-tells old new caller call line found finished =
       subst (λ (t : Told). StandsAt new t.1) (sym event) ended.left,
     ))
 
+-- ---- What is sent
+
+unbare : (rights : List (TableId × Level)) (reads : List ReadItem)
+    → AllByRecursion (λ (read : ReadItem). IsTrue (can_read rights read.table.0)) (map bare reads)
+    → AllByRecursion (λ (read : ReadItem). IsTrue (can_read rights read.table.0)) reads
+unbare rights [] all = tt
+unbare rights (read ∷ reads) all = (all.0, unbare rights reads all.1)
+
+true-either : (audit : Bool) (rights : List (TableId × Level)) (call : Call) (program : Program) (given : Outcome) (writes : List Write) (reads : List ReadItem)
+    → EndsWith (mean program call.args call.budget (part reads rights)) given writes → IsTrueTo audit rights call program given writes reads
+true-either true rights call program given writes reads ends = ends
+true-either false rights call program given writes reads ends = tt
+
+-- the end of a pushed call may be committed
+sent-of : (grants : GrantsList) (audit : Bool) (journal : List Entry) (pushed : Pushed) (given : Outcome) (writes : List Write)
+    → RanOn grants journal pushed.call pushed.ext.program pushed.rights pushed.reads → IsCarried pushed → EndsWith (meant pushed) given writes
+    → SentOn grants audit journal pushed.call given writes pushed.reads
+sent-of grants audit journal pushed given writes ran carried ends =
+    let within = run-within grants journal pushed.call pushed.ext.program pushed.reads pushed.rights given writes ran.own carried.asked ends in
+    record {
+      program = pushed.ext.program;
+      held = ran.held;
+      named = ran.named;
+      within = record { reading = unbare (granted grants journal pushed.call.caller.tenant) pushed.reads within.reading; writing = within.writing };
+      true_to = true-either audit (granted grants journal pushed.call.caller.tenant) pushed.call pushed.ext.program given writes pushed.reads
+          (subst (λ (rights : List (TableId × Level)). EndsWith (mean pushed.ext.program pushed.call.args pushed.call.budget (part pushed.reads rights)) given writes) ran.own ends);
+    }
+
+pub sent-on : (grants : GrantsList) (audit : Bool) (journal : List Entry) (pushed : Pushed) (sent : Sent)
+    → RanOn grants journal pushed.call pushed.ext.program pushed.rights pushed.reads → IsTrueEnd pushed sent
+    → SentOn grants audit journal sent.call sent.outcome sent.writes sent.reads
+sent-on grants audit journal pushed sent ran end =
+    subst (λ (call : Call). SentOn grants audit journal call sent.outcome sent.writes sent.reads) (sym end.call)
+    (subst (λ (reads : List ReadItem). SentOn grants audit journal pushed.call sent.outcome sent.writes reads) (sym end.reads)
+    (sent-of grants audit journal pushed sent.outcome sent.writes ran end.carried end.meant))
+
+-- and it is within its limits
+pub sent-arguments : (pushed : Pushed) (sent : Sent) → IsTrueEnd pushed sent → IsArguments sent.call.args
+sent-arguments pushed sent end = subst (λ (call : Call). IsArguments call.args) (sym end.call) end.carried.arguments
+
+pub sent-reply : (pushed : Pushed) (sent : Sent) → IsTrueEnd pushed sent → ReplyFits sent.outcome
+sent-reply pushed sent end =
+    (within-limits pushed.ext.program pushed.call.args pushed.call.budget (part pushed.reads pushed.rights)).reply sent.outcome end.meant.answers
+
+pub sent-values : (pushed : Pushed) (sent : Sent) → IsTrueEnd pushed sent → AllByRecursion ChangeFits sent.writes
+sent-values pushed sent end =
+    subst (λ (changes : List Write). AllByRecursion ChangeFits changes) end.meant.leaves
+    (within-limits pushed.ext.program pushed.call.args pushed.call.budget (part pushed.reads pushed.rights)).values
+
 -- ---- A call is forgotten
 
 pub cut-tells : (old new : Sim) (caller : Caller) (call : Pushed) (line : Line) → first_of (is_callers caller) old.pushed ≡ Some call
@@ -307,7 +364,7 @@ cut-tells old new caller call line found cut =
       next = cut.next ∙ at.next;
       indexed = indexed-ended old.callers new.callers (all_calls state) (rest ∷ state.queues) live
           (λ (weight : Live → ℕ). total-without weight (is_call_of caller) state.pushed state.queues state.queues live own.found refl) at.indexed
-          (λ other. cut.callers other ∙ ap (λ (c : Call). if same_caller c.caller other then None else _) same);
+          (λ other. cut.callers other ∙ ap (λ (c : Call). if same_caller c.caller other then None else number_of old.callers other) same);
       installed = at.installed;
       live = (all-without Holds (is_call_of caller) state.pushed at.live.0, at.live.1);
     } in (
