@@ -92,9 +92,9 @@ fn digits(text: &[u8], most: u64) -> Option<u64>
     Some(value)
 }
 
-/// The number that a field spells, if it is at most `most`.
+/// The number that a text spells, if it is at most `most`: decimal digits, with no sign and no zero in front.
 #[tactic(auto, using(crate::proofs::Digits::within_is))]
-fn spelled(text: &[u8], most: u64) -> Option<u64>
+pub fn spelled_number(text: &[u8], most: u64) -> Option<u64>
     ensures value { result ≡ at_most most (number_of text.now) }
     ensures within { IfSome result (λ number. number ≤ most) }
 {
@@ -110,7 +110,7 @@ pub fn number(text: &[u8], least: u64, most: u64) -> Result<u64, LineFault>
     ensures value { Gives (λ n. n) result (number_field least most text.now) }
     ensures within { IfOk result (IsWithin least most) }
 {
-    match spelled(text, most) {
+    match spelled_number(text, most) {
         Some(number) if number >= least => Ok(number),
         _ => Err(LineFault::Code(LineCode::Field)),
     }

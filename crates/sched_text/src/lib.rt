@@ -24,6 +24,7 @@ pub use calls::{CallItem, CallScript};
 pub use code::LineCode;
 pub use event::Event;
 pub use fault::ScriptFault;
+pub use fields::spelled_number;
 pub use laws::{bytes_are_pairs, fields_are_spaced, lines_read_back, numbers_are_decimal};
 pub use read::{read_calls, read_script, read_setup};
 pub use rows::Rows;

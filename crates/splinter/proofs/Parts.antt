@@ -12,10 +12,10 @@ use Rattle.sched_text.specs.declared.event.Event.{Event}
 use Rattle.sched_text.specs.declared.event.Event.TheVariants as event
 use Rattle.sched_text.specs.Fits.{IsEvent}
 use Rattle.sim.specs.declared.sim.Sim.{Sim}
-use Rattle.sim.specs.Play.{Answer, Drains, Follows, drain_turn, event_of, in_drain, no_event, one_event, no_turn, one_turn}
+use Rattle.sim.specs.Play.{Answer, Drains, Follows, drain_event, event_of, in_drain, no_event, no_more, one_event, one_more}
 use Rattle.sim.specs.Standing.{FitsEvent, Stands, StandsAt}
 use Rattle.sim.specs.State.{SimState}
-use Rattle.splinter.specs.Playing.{AddsBody, AddsDrain, AddsEvent, AddsTurns, NoneAdded, TurnAdded}
+use Rattle.splinter.specs.Playing.{AddsBody, AddsDrain, AddsEvent, AddsSteps, NoneAdded, StepAdded}
 use Rattle.splinter.specs.Running.{answers_text}
 
 -- events that follow one another
@@ -66,47 +66,47 @@ still-stands sim next number event before after stands added = record {
   at = added.played.tells.left stands.state stands.at;
 }
 
-pub turns-start : (sim : Sim) (state : SimState) (text : List ℕ) → StandsAt sim state → AddsTurns state sim text text
-turns-start sim state text at =
+pub steps-start : (sim : Sim) (state : SimState) (text : List ℕ) → StandsAt sim state → AddsSteps state sim text text
+steps-start sim state text at =
     record { state = state; at = at; lines = []; goes_on = λ rest last drains. drains; written = sym (append-nil text) }
 
--- a turn of the drain was played, and its answer written
-pub turns-more : (old : SimState) (sim next : Sim) (before between after : List ℕ)
-    → AddsTurns old sim before between → TurnAdded sim next between after → AddsTurns old next before after
-turns-more old sim next before between after turns added =
-    let state : SimState = turns.state in
+-- an event of the drain was played, and its answer written
+pub steps-more : (old : SimState) (sim next : Sim) (before between after : List ℕ)
+    → AddsSteps old sim before between → StepAdded sim next between after → AddsSteps old next before after
+steps-more old sim next before between after steps added =
+    let state : SimState = steps.state in
     let line : Line = added.line in
     let played = added.played in
-    let told : line ≡ (drain_turn state played.worker).0 = played.tells.told state turns.at in
-    let drains-more : (rest : List Line) (last : SimState) → Drains (drain_turn state played.worker).1 rest last → Drains state (line ∷ rest) last =
+    let told : line ≡ (drain_event state played.event).0 = played.tells.told state steps.at in
+    let drains-more : (rest : List Line) (last : SimState) → Drains (drain_event state played.event).1 rest last → Drains state (line ∷ rest) last =
     λ rest last drains. subst (λ (said : Line). Drains state (said ∷ rest) last) (sym told)
-    (one_turn state played.worker rest last (played.next state turns.at) drains) in
+    (one_more state played.event rest last (played.next state steps.at) drains) in
     record {
-      state = (drain_turn state played.worker).1;
-      at = played.tells.left state turns.at;
-      lines = turns.lines ++ line ∷ [];
-      goes_on = λ rest last drains. subst (λ (lines : List Line). Drains old lines last) (sym (append_assoc turns.lines (line ∷ []) rest))
-          (turns.goes_on (line ∷ rest) last (drains-more rest last drains));
-      written = written-more before between after (map in_drain turns.lines) (in_drain line) turns.written added.written
-          ∙ ap (λ (answers : List Answer). before ++ answers_text answers) (sym (map-append in_drain turns.lines (line ∷ [])));
+      state = (drain_event state played.event).1;
+      at = played.tells.left state steps.at;
+      lines = steps.lines ++ line ∷ [];
+      goes_on = λ rest last drains. subst (λ (lines : List Line). Drains old lines last) (sym (append_assoc steps.lines (line ∷ []) rest))
+          (steps.goes_on (line ∷ rest) last (drains-more rest last drains));
+      written = written-more before between after (map in_drain steps.lines) (in_drain line) steps.written added.written
+          ∙ ap (λ (answers : List Answer). before ++ answers_text answers) (sym (map-append in_drain steps.lines (line ∷ [])));
     }
 
-pub turn-stands : (sim next : Sim) (before after : List ℕ) → Stands sim → TurnAdded sim next before after → Stands next
-turn-stands sim next before after stands added = record {
-  state = (drain_turn stands.state added.played.worker).1;
+pub step-stands : (sim next : Sim) (before after : List ℕ) → Stands sim → StepAdded sim next before after → Stands next
+step-stands sim next before after stands added = record {
+  state = (drain_event stands.state added.played.event).1;
   at = added.played.tells.left stands.state stands.at;
 }
 
--- no worker has a live call
-pub turns-end : (old : SimState) (sim last : Sim) (before between after : List ℕ) → AddsTurns old sim before between → NoneAdded sim last between after
+-- no call is live
+pub steps-end : (old : SimState) (sim last : Sim) (before between after : List ℕ) → AddsSteps old sim before between → NoneAdded sim last between after
     → AddsDrain old last before after
-turns-end old sim last before between after turns added = record {
-  state = turns.state;
-  at = subst (λ (sim : Sim). StandsAt sim turns.state) (sym added.none.same) turns.at;
-  lines = turns.lines;
-  drains = subst (λ (lines : List Line). Drains old lines turns.state) (append-nil turns.lines)
-      (turns.goes_on [] turns.state (no_turn turns.state (added.none.none turns.state turns.at)));
-  written = added.written ∙ turns.written;
+steps-end old sim last before between after steps added = record {
+  state = steps.state;
+  at = subst (λ (sim : Sim). StandsAt sim steps.state) (sym added.none.same) steps.at;
+  lines = steps.lines;
+  drains = subst (λ (lines : List Line). Drains old lines steps.state) (append-nil steps.lines)
+      (steps.goes_on [] steps.state (no_more steps.state (added.none.none steps.state steps.at)));
+  written = added.written ∙ steps.written;
 }
 
 -- events that fit a number of workers

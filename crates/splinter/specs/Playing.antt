@@ -6,7 +6,7 @@ use Rattle.report.specs.Lines.{answer_text}
 use Rattle.sched_text.specs.declared.event.Event.{Event}
 use Rattle.sim.specs.declared.sim.Sim.{Sim}
 use Rattle.sim.specs.Play.{Answer, Drains, Follows, in_drain}
-use Rattle.sim.specs.Standing.{NoneLeft, Played, StandsAt, TurnPlayed}
+use Rattle.sim.specs.Standing.{DrainStep, NoneLeft, Played, StandsAt}
 use Rattle.sim.specs.State.{SimState}
 use Rattle.splinter.specs.Running.{answers_text}
 
@@ -24,24 +24,24 @@ pub record AddsBody (old : SimState) (sim : Sim) (events : List (ℕ × Event)) 
   pub follows : Follows old events answers state
   pub written : after ≡ before ++ answers_text answers
 
--- the next turn of the drain was played, and its answer stands behind what was written before
-pub record TurnAdded (old new : Sim) (before after : List ℕ) : Type 0 where
+-- the next event of the drain was played, and its answer stands behind what was written before
+pub record StepAdded (old new : Sim) (before after : List ℕ) : Type 0 where
   pub line : Line
-  pub played : TurnPlayed old new line
+  pub played : DrainStep old new line
   pub written : after ≡ before ++ answer_text Drain line
 
--- no worker has a live call, and nothing was written
+-- no call is live, and nothing was written
 pub record NoneAdded (old new : Sim) (before after : List ℕ) : Type 0 where
   pub none : NoneLeft old new
   pub written : after ≡ before
 
-abbrev pub AddsTurn : Bool → Sim → Sim → List ℕ → List ℕ → Type 0
-AddsTurn true old new before after = TurnAdded old new before after
-AddsTurn false old new before after = NoneAdded old new before after
+abbrev pub AddsStep : Bool → Sim → Sim → List ℕ → List ℕ → Type 0
+AddsStep true old new before after = StepAdded old new before after
+AddsStep false old new before after = NoneAdded old new before after
 
--- from this state some turns of the drain were played, and their answers stand behind what was written
+-- from this state some events of the drain were played, and their answers stand behind what was written
 -- before; as the drain goes on from there, it goes on from the first state
-pub record AddsTurns (old : SimState) (sim : Sim) (before after : List ℕ) : Type 0 where
+pub record AddsSteps (old : SimState) (sim : Sim) (before after : List ℕ) : Type 0 where
   pub state : SimState
   pub at : StandsAt sim state
   pub lines : List Line

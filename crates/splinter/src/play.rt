@@ -6,7 +6,7 @@ ghost use Rattle.report.specs.Lines.{answer_text};
 ghost use Rattle.sched_text.specs.Fits.{IsScript};
 ghost use Rattle.sim.specs.Standing.{FitsEvent, Stands, StandsAt, units_left, workers_of};
 ghost use Rattle.sim.specs.State.{SimState};
-ghost use Rattle.splinter.specs.Playing.{AddsBody, AddsDrain, AddsEvent, AddsTurn};
+ghost use Rattle.splinter.specs.Playing.{AddsBody, AddsDrain, AddsEvent, AddsStep};
 ghost use Rattle.splinter.specs.Running.{IsPlayOf};
 
 use report::{Line, Prefix, Text, answer_line, journal_lines};
@@ -71,14 +71,14 @@ fn add_drain(alloc: Global, text: &mut Text, sim: &mut Sim) -> Result<(), Memory
     ensures { OnOk result ((state : SimState) → StandsAt sim.old state
         → AddsDrain state sim.new text.old text.new) }
 {
-    'turns: while play_turn(alloc, text, sim)? {}
+    'steps: while play_step(alloc, text, sim)? {}
     Ok(())
 }
 
-/// Plays the next turn of the drain, and adds its answer. False where none is left.
-fn play_turn(alloc: Global, text: &mut Text, sim: &mut Sim) -> Result<bool, Memory>
+/// Plays the next event of the drain, and adds its answer. False where none is left.
+fn play_step(alloc: Global, text: &mut Text, sim: &mut Sim) -> Result<bool, Memory>
     requires { Stands sim.old }
-    ensures added { IfOk result (λ more. AddsTurn more sim.old sim.new text.old text.new) }
+    ensures added { IfOk result (λ more. AddsStep more sim.old sim.new text.old text.new) }
     ensures falls { IfOk result (λ more. IsTrue more → units_left sim.new < units_left sim.old) }
 {
     match sim.next_drain()? {

@@ -1,3 +1,4 @@
+mod pushed;
 mod rows;
 mod small;
 
@@ -62,10 +63,6 @@ ext 1 2
 fn main() -> int { return 0; }
 >>
 script 2 Text
-$run 3
-policy 1 17
->>
-script 1 NotYet
 $check 1
 fn main() -> int {
   let b: temp = temp(4);
@@ -191,7 +188,8 @@ fn commands_write_what_is_told(rt: HostRuntime) -> Result<(), Fail> {
 
 #[test]
 fn scripts_play_as_the_rules_say(rt: HostRuntime) -> Result<(), Fail> {
-    expect_all(&rt, rt.alloc(), rows::ROWS)
+    expect_all(&rt, rt.alloc(), rows::ROWS)?;
+    expect_all(&rt, rt.alloc(), pushed::PUSHED)
 }
 
 /// Adds lines that are written with `|` for a newline.

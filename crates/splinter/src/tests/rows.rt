@@ -19,9 +19,9 @@ ext 1 1
 fn main() -> int { get(5, args()) { some s => { multiget(5, s, 1) { some u => { resp(u); } none => { } } } none => { } } return 0; }
 ext 2 1
 fn main() -> int { let n: int = 0; get(6, args()) { some s => { n = u64(s, 0); } none => { } } let b: buf = alloc(6, args(), 8); set8(b, 0, n + 1); put(b); return n + 1; }
-begin 0 1 1 1 0 1000 stay x61
-begin 0 2 1 1 0 1000 stay x63
-begin 1 2 2 1 0 1000 stay x64
+begin 0 1 1 1 0 1000 push x61
+begin 0 2 1 1 0 1000 push x63
+begin 1 2 2 1 0 1000 push x64
 turn 0 20
 steal 1 0
 turn 1 20
@@ -69,9 +69,9 @@ ext 1 1
 fn main() -> int { get(5, args()) { some s => { multiget(5, s, 1) { some u => { resp(u); } none => { } } } none => { } } return 0; }
 ext 2 1
 fn main() -> int { let n: int = 0; get(6, args()) { some s => { n = u64(s, 0); } none => { } } let b: buf = alloc(6, args(), 8); set8(b, 0, n + 1); put(b); return n + 1; }
-begin 0 1 1 1 0 1000 stay x61
-begin 0 2 1 1 0 1000 stay x63
-begin 1 2 2 1 0 1000 stay x64
+begin 0 1 1 1 0 1000 push x61
+begin 0 2 1 1 0 1000 push x63
+begin 1 2 2 1 0 1000 push x64
 >>
 8 put 0
 9 put 1
