@@ -1,6 +1,8 @@
 pub mod Lengths
 pub mod Held
+pub mod Reading
 pub mod Turns
+pub mod Passing
 pub mod Ways
-pub mod Driving
-pub mod Batches
+pub mod Replying
+pub mod Batching
