@@ -91,7 +91,6 @@ filled-here items (one ∷ ends) stay here =
 
 -- ---- Answering
 
-
 stands-there : (session : Session) → Stands session (record { tenant = tenant_of session.admitted; kept = []; seen = session.seen })
 stands-there session = record { tenant = refl; seen = refl; kept = refl }
 

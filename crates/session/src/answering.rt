@@ -102,7 +102,9 @@ impl Session {
         if self.admitted.is_none() {
             return self.end(Fault::OutOfTurn);
         }
-        Answer::Finished { item: Item::NotParked }
+        Answer::Finished {
+            item: Item::NotParked,
+        }
     }
 
     /// Installs an extension.
@@ -182,7 +184,10 @@ impl Session {
             return self.stop(Fault::Memory);
         };
         let at = book.len();
-        self.admitted = Some(Admitted { tenant, rights: own });
+        self.admitted = Some(Admitted {
+            tenant,
+            rights: own,
+        });
         self.show(at);
         Plan::Send(Answer::Welcome { rights, at })
     }

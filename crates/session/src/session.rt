@@ -9,10 +9,10 @@ ghost use Rattle.session.specs.States.{State, Terms, opening};
 ghost use Rattle.session.specs.Steps.{faulted};
 ghost use Rattle.session.specs.Standing.{AllStay, Asks, Awaits, EndHolds, Finishes, Fits, IsAsked, IsOpen, IsRunning, Planned, Refused, Stands, ended_now, request_of, room_in};
 
+use crate::batch::fill;
 use crate::conf::SessionConf;
 use crate::fault::Fault;
 use crate::plan::{Ask, Plan};
-use crate::batch::fill;
 use book::{Book, CallEnd};
 use sp_base::{MOST_PARKED, Rights, TenantId};
 use std::alloc::Global;

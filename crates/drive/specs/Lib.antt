@@ -1,4 +1,0 @@
-pub mod Hearing
-pub mod Running
-pub mod Sendable
-pub mod Batches
