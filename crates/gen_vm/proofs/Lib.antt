@@ -1,7 +1,6 @@
 pub mod DepthLemmas
 pub mod FindingLemmas
 pub mod StackLemmas
-pub mod HaltLemmas
 pub mod GoingLemmas
 pub mod SteadyLemmas
 pub mod StandingLemmas
