@@ -196,7 +196,7 @@ fn scripts_play_as_the_rules_say(rt: HostRuntime) -> Result<(), Fail> {
 #[test]
 fn other_words_are_no_command(rt: HostRuntime) -> Result<(), Fail> {
     let alloc = rt.alloc();
-    for line in ["run now", "--help", "", "running"] {
+    for line in ["run now", "drill 01 0", "drill 1", "--help", "help", "", "running"] {
         let mut words = Vec::new(alloc);
         for word in line.split_whitespace() {
             words.push(String::from_str(alloc, word)?)?;
@@ -208,6 +208,65 @@ fn other_words_are_no_command(rt: HostRuntime) -> Result<(), Fail> {
         assert_eq!(rt; source.calls, 0);
         assert_eq!(rt; sink.calls, 0);
     }
+    Ok(())
+}
+
+/// Runs a drill, and gives what it writes.
+fn drilled(rt: &impl Abort, alloc: Global, count: &str, seed: &str) -> Result<Vec<u8>, Fail> {
+    let words = vec![
+        in alloc;
+        String::from_str(alloc, "drill")?,
+        String::from_str(alloc, count)?,
+        String::from_str(alloc, seed)?
+    ]?;
+    let mut source = source_of(alloc, b"", Vec::new(alloc))?;
+    let mut sink = MemSink::of(alloc, 200, Vec::new(alloc))?;
+    let ended = splinter(&(), alloc, words.as_slice(), &mut source, &mut sink);
+    assert_eq!(rt; ended, Status::Ok);
+    assert_eq!(rt; source.calls, 0);
+    Ok(sink.held)
+}
+
+/// Drills of no call, of one and of two, whose calls meet no other.
+#[test]
+fn a_drill_writes_its_summary(rt: HostRuntime) -> Result<(), Fail> {
+    let alloc = rt.alloc();
+    let none = drilled(&rt, alloc, "0", "0")?;
+    assert_eq!(rt; none.as_slice(), b"calls 0\ncommitted 0\nconflict 0\npushed 0\njournal 1\n".as_slice());
+    let one = drilled(&rt, alloc, "1", "0")?;
+    assert_eq!(rt; one.as_slice(), b"calls 1\ncommitted 1\nconflict 0\npushed 0\njournal 2\n".as_slice());
+    let two = drilled(&rt, alloc, "2", "0")?;
+    assert_eq!(rt; two.as_slice(), b"calls 2\ncommitted 2\nconflict 0\npushed 0\njournal 3\n".as_slice());
+    Ok(())
+}
+
+/// The numbers of the five lines.
+fn numbers_of(alloc: Global, text: &[u8]) -> Result<Vec<u64>, Fail> {
+    let mut numbers = Vec::new(alloc);
+    for line in std::str::from_utf8(text)?.lines() {
+        let Some((_, number)) = line.split_once(' ') else {
+            return Err(Fail::new("no number"));
+        };
+        numbers.push(number.parse::<u64>()?)?;
+    }
+    Ok(numbers)
+}
+
+/// The largest drill writes the same bytes twice. Its journal has the installation and what committed, and
+/// each call committed or met a conflict.
+#[test]
+fn the_largest_drill_is_the_same_twice(rt: HostRuntime) -> Result<(), Fail> {
+    let alloc = rt.alloc();
+    let first = drilled(&rt, alloc, "10000", "1")?;
+    let second = drilled(&rt, alloc, "10000", "1")?;
+    assert_eq!(rt; first.as_slice(), second.as_slice());
+    let numbers = numbers_of(alloc, first.as_slice())?;
+    let [calls, committed, conflict, _, journal] = numbers.as_slice() else {
+        return Err(Fail::new("five lines"));
+    };
+    assert_eq!(rt; *calls, 10_000);
+    assert_eq!(rt; committed.checked_add(*conflict), Some(10_000));
+    assert_eq!(rt; committed.checked_add(1), Some(*journal));
     Ok(())
 }
 

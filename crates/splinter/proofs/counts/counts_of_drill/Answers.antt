@@ -1,0 +1,11 @@
+-- The counts are those of the drill's play.
+use Rattle.std.proofs.Common.{subst}
+use Rattle.splinter.specs.Playing.{TellsPlay}
+use Rattle.splinter.proofs.Counting.{drill-counted, heard, none_counted}
+use Rattle.splinter.proofs.counts.counts_of_drill.Goals as goal
+
+pub returns : goal.returns
+returns c =
+    drill-counted c.args.count c.args.seed c.in_ok-sim.sim c.book.result.now c.play-sim.new.listener c.len.result
+    (subst (λ script. TellsPlay heard script c.in_ok-sim.sim (none_counted c.args.count) c.play-sim.new.listener) c.in_ok-script.ensures.script c.in_ok-sim.ensures)
+    c.book.ensures.journal c.len.ensures
