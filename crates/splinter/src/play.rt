@@ -3,7 +3,7 @@
 ghost use Rattle.std.specs.Prelude.{◌≡◌, ◌<◌, IsTrue, IfOk, OnOk};
 ghost use Rattle.std.specs.List.{AllByRecursion};
 ghost use Rattle.sched_text.specs.Fits.{IsScript};
-ghost use Rattle.sim.specs.Play.{Answer, in_drain};
+ghost use Rattle.sim.specs.Play.{Answer};
 ghost use Rattle.sim.specs.Standing.{FitsEvent, Stands, StandsAt, units_left, workers_of};
 ghost use Rattle.sim.specs.State.{SimState};
 ghost use Rattle.splinter.specs.Playing.{TellsBody, TellsDrain, TellsEvent, TellsPlay, TellsStep};
