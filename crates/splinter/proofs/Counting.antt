@@ -1,49 +1,54 @@
 -- What a drill counts, over all its answers.
-use Rattle.std.specs.Prelude.{count_by, fold, if◌then◌else◌}
-use Rattle.std.proofs.Common.{◌≡◌, ℕ, ◌+◌, Bool, true, false, List, [], ◌∷◌, length, ap, sym, ◌∙◌, refl, arith}
+use Rattle.std.specs.Prelude.{cond, fold}
+use Rattle.std.proofs.Common.{◌≡◌, ℕ, ◌+◌, Bool, true, false, List, [], ◌∷◌, length, ap, ◌∙◌, refl, arith}
 use Rattle.load_gen.specs.Drill.{drill_script}
 use Rattle.book.specs.Standing.{BookValue, StandsFor}
 use Rattle.journal.specs.declared.entry.Entry.{Entry}
 use Rattle.report.specs.declared.counts.Counts.{Counts}
+use Rattle.report.specs.declared.line.Line.{Line}
 use Rattle.sim.specs.declared.sim.Sim.{Sim}
 use Rattle.sim.specs.Play.{Answer}
 use Rattle.sim.specs.Standing.{StandsAt}
 use Rattle.sim.specs.State.{SimState}
-use Rattle.splinter.specs.Drilling.{CountsDrill, counted, drill_counts, one_if, tells_commit, tells_conflict, tells_push}
+use Rattle.splinter.specs.Drilling.{CountsDrill, counted, one_if, tells_commit, tells_conflict, tells_push}
 use Rattle.splinter.specs.Playing.{TellsPlay}
 
--- how many answers are so, behind a number of others
-one-more : (so : Bool) (count more : ℕ) → one_if so count + more ≡ count + ((if so then 1 else 0) + more)
-one-more true count more = omega arith
-one-more false count more = omega arith
+-- one more, as a sum
+one-more : (so : Bool) (count : ℕ) → one_if so count ≡ count + cond so 1 0
+one-more true count = refl
+one-more false count = omega arith
 
 abbrev pub heard : Counts → Answer → Counts
 heard counts answer = counted counts answer.1
 
--- the counts behind those that were there
-abbrev counts_behind : Counts → List Answer → Counts
-counts_behind before answers = record before {
-  committed = before.committed + count_by (λ (answer : Answer). tells_commit answer.1) answers;
-  conflict = before.conflict + count_by (λ (answer : Answer). tells_conflict answer.1) answers;
-  pushed = before.pushed + count_by (λ (answer : Answer). tells_push answer.1) answers;
-}
+-- how many answers are so, and this many before them
+abbrev count_from : (Line → Bool) → ℕ → List Answer → ℕ
+count_from so count answers = fold (λ (sum : ℕ) (answer : Answer). sum + cond (so answer.1) 1 0) count answers
 
--- counts by three numbers
+-- counts with these three numbers
 abbrev with_numbers : Counts → ℕ → ℕ → ℕ → Counts
 with_numbers before committed conflict pushed =
     record before { committed = committed; conflict = conflict; pushed = pushed }
 
-same-numbers : (before : Counts) (a b c d e f : ℕ) → a ≡ d → b ≡ e → c ≡ f → with_numbers before a b c ≡ with_numbers before d e f
-same-numbers before a b c d e f first second third = λ i. with_numbers before (first i) (second i) (third i)
+-- the counts behind those that were there
+abbrev counts_behind : Counts → List Answer → Counts
+counts_behind before answers =
+    with_numbers before (count_from tells_commit before.committed answers) (count_from tells_conflict before.conflict answers)
+    (count_from tells_push before.pushed answers)
 
 counts-heard : (before : Counts) (answers : List Answer) → fold heard before answers ≡ counts_behind before answers
-counts-heard before [] = same-numbers before _ _ _ _ _ _ (omega arith) (omega arith) (omega arith)
+counts-heard before [] = refl
 counts-heard before (answer ∷ answers) =
-    counts-heard (heard before answer) answers
-    ∙ same-numbers before _ _ _ _ _ _
-    (one-more (tells_commit answer.1) before.committed (count_by (λ (answer : Answer). tells_commit answer.1) answers))
-    (one-more (tells_conflict answer.1) before.conflict (count_by (λ (answer : Answer). tells_conflict answer.1) answers))
-    (one-more (tells_push answer.1) before.pushed (count_by (λ (answer : Answer). tells_push answer.1) answers))
+    let rest : fold heard before (answer ∷ answers) ≡ counts_behind (heard before answer) answers = counts-heard (heard before answer) answers in
+    let committed : count_from tells_commit (one_if (tells_commit answer.1) before.committed) answers ≡ count_from tells_commit before.committed (answer ∷ answers) =
+    ap (λ (count : ℕ). count_from tells_commit count answers) (one-more (tells_commit answer.1) before.committed) in
+    let conflict : count_from tells_conflict (one_if (tells_conflict answer.1) before.conflict) answers ≡ count_from tells_conflict before.conflict (answer ∷ answers) =
+    ap (λ (count : ℕ). count_from tells_conflict count answers) (one-more (tells_conflict answer.1) before.conflict) in
+    let pushed : count_from tells_push (one_if (tells_push answer.1) before.pushed) answers ≡ count_from tells_push before.pushed (answer ∷ answers) =
+    ap (λ (count : ℕ). count_from tells_push count answers) (one-more (tells_push answer.1) before.pushed) in
+    let more : counts_behind (heard before answer) answers ≡ counts_behind before (answer ∷ answers) =
+    λ i. with_numbers before (committed i) (conflict i) (pushed i) in
+    rest ∙ more
 
 -- nothing is counted yet of a drill with so many calls
 abbrev pub none_counted : ℕ → Counts
@@ -58,6 +63,5 @@ drill-counted count seed last book end entries told stands sized =
       journal = told.state.journal;
       play = told.play;
       counts_are = ap (λ (size : ℕ). with_journal end size) (sized told.state.journal (stands told.state told.at))
-          ∙ ap (λ (counts : Counts). with_journal counts (length told.state.journal)) (told.heard ∙ counts-heard (none_counted count) told.answers)
-          ∙ (λ i. drill_counts count told.answers told.state.journal);
+          ∙ ap (λ (counts : Counts). with_journal counts (length told.state.journal)) (told.heard ∙ counts-heard (none_counted count) told.answers);
     }

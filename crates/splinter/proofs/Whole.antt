@@ -32,7 +32,7 @@ pub play-of : {Listener : Type 0} (hear : Listener → Answer → Listener) (scr
     → TellsBody hear (opened script.head) between script.events before middle
     → ((state : SimState) → StandsAt between state → TellsDrain hear state last middle end)
     → TellsPlay hear script last before end
-play-of hear script between last before middle end body drain =
+play-of {Listener = Listener} hear script between last before middle end body drain =
     let drained = drain body.state body.at in
     let state : SimState = drained.state in
     let granted : state.grants ≡ script.head.rights = drains-grants drained.drains ∙ follows-grants body.follows in

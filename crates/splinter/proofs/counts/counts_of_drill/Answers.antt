@@ -6,6 +6,6 @@ use Rattle.splinter.proofs.counts.counts_of_drill.Goals as goal
 
 pub returns : goal.returns
 returns c =
-    drill-counted c.args.count c.args.seed c.in_ok-sim.sim c.book.result.now c.play-sim.new.listener c.len.result
-    (subst (λ script. TellsPlay heard script c.in_ok-sim.sim (none_counted c.args.count) c.play-sim.new.listener) c.in_ok-script.ensures.script c.in_ok-sim.ensures)
+    drill-counted c.args.count c.args.seed c.in_ok-sim.sim c.book.result.now c.play.new.listener c.len.result
+    (subst (λ script. TellsPlay heard script c.in_ok-sim.sim (none_counted c.args.count) c.play.new.listener) c.in_ok-script.ensures.script c.in_ok-sim.ensures)
     c.book.ensures.journal c.len.ensures

@@ -23,7 +23,7 @@ loop-line-preserved g c =
           ∙ ap (λ (events : List (ℕ × Event)). c.loop-line.yielded ++ events) (sym steps) ∙ c.loop-line.invariant.whole;
       fit = subst (λ (workers : ℕ). Fit workers (into_iter_items c.next.new.self)) (sym c.in_ok-play_event.ensures.workers) fits.1;
       stands = still-stands g.L.Listener.heard c.loop-line.sim c.play_event.new.sim c.in-Some.line c.in-Some.event c.loop-line.listener c.play_event.new.listener
-          c.loop-line.invariant.stands c.in_ok-play_event.ensures.added;
+          c.loop-line.invariant.stands c.in_ok-play_event.ensures.told;
       added = λ state at. body-more g.L.Listener.heard state c.loop-line.sim c.play_event.new.sim c.loop-line.yielded c.in-Some.line c.in-Some.event
-          c.args.listener.now c.loop-line.listener c.play_event.new.listener (c.loop-line.invariant.added state at) c.in_ok-play_event.ensures.added;
+          c.args.listener.now c.loop-line.listener c.play_event.new.listener (c.loop-line.invariant.added state at) c.in_ok-play_event.ensures.told;
     }
