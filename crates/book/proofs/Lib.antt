@@ -4,3 +4,4 @@ pub mod Soundness
 pub mod Verdicts
 pub mod Standing
 pub mod Indexing
+pub mod Joining

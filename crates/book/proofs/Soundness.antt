@@ -1,6 +1,5 @@
 -- A sound journal under audit is legal.
-use Rattle.std.specs.Prelude.{Some, slice_get}
-use Rattle.std.proofs.Common.{◌≡◌, ℕ, true, List}
+use Rattle.std.proofs.Common.{ℕ, true, List}
 use Rattle.records.specs.GrantsList.{GrantsList}
 use Rattle.journal.specs.declared.entry.Entry.{Entry}
 use Rattle.journal.specs.declared.entry.Entry.TheVariants.{Invoke, Put, Install}

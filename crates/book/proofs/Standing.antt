@@ -1,13 +1,5 @@
 -- What is said of the book's own list holds of each list for which the book stands.
-use Rattle.std.specs.Prelude.{IsTrue}
-use Rattle.std.proofs.Common.{◌≡◌, ℕ, Bool, true, false, List, refl, sym, ◌∙◌, ap, subst}
-use Rattle.std.specs.List.{AllByRecursion}
-use Rattle.sp_base.specs.declared.calls.Call.{Call}
-use Rattle.sp_base.specs.declared.outcomes.Outcome.{Outcome}
-use Rattle.sp_base.specs.declared.reads.ReadItem.{ReadItem}
-use Rattle.sp_base.specs.declared.writes.Write.{Write}
-use Rattle.ext_mean.specs.declared.tree.Program.{Program}
-use Rattle.records.specs.GrantsList.{GrantsList}
+use Rattle.std.proofs.Common.{List, refl, sym, subst}
 use Rattle.journal.specs.declared.entry.Entry.{Entry}
 use Rattle.book.specs.Standing.{BookValue, IsSound, StandsFor}
 

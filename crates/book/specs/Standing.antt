@@ -7,12 +7,15 @@ use Rattle.sp_base.specs.declared.outcomes.Outcome.{Outcome}
 use Rattle.sp_base.specs.declared.reads.ReadItem.{ReadItem}
 use Rattle.sp_base.specs.declared.writes.Write.{Write}
 use Rattle.ext_mean.specs.declared.tree.Program.{Program}
+use Rattle.ext_mean.specs.Meaning.{mean}
+use Rattle.ext_mean.specs.Outcomes.{EndsWith}
+use Rattle.ext_mean.specs.Views.{part}
 use Rattle.records.specs.GrantsList.{GrantsList, RightsList, AreGrants}
 use Rattle.journal.specs.declared.entry.Entry.{Entry}
 use Rattle.journal.specs.declared.entry.Entry.TheVariants.{Invoke, Put, Install}
 use Rattle.journal.specs.declared.entry.Home.TheVariants.{Server, Client}
 use Rattle.journal.specs.Granted.{granted}
-use Rattle.journal.specs.Legal.{EachFrom, InOrder, IsLegal, IsMeantOn, Names, Within}
+use Rattle.journal.specs.Legal.{CallIsWithin, EachFrom, InOrder, IsLegal, IsMeantOn, Names, Within, WithinAt}
 use Rattle.journal.specs.Reads.{IsCurrent, IsHeld}
 use Rattle.journal.specs.Sizes.{EntryFits, size_of}
 
@@ -69,6 +72,29 @@ pub record RanOn (grants : GrantsList) (journal : List Entry) (call : Call) (pro
   pub held : AllByRecursion (IsHeld journal) reads
   pub named : Names journal call program
   pub own : rights ≡ granted grants journal call.caller.tenant
+
+-- under audit, what a client sent is what the program means on the reads that were kept for its call
+abbrev pub IsTrueTo : Bool → RightsList → Call → Program → Outcome → List Write → List ReadItem → Type 0
+IsTrueTo true rights call program outcome writes reads =
+    EndsWith (mean program call.args call.budget (part reads rights)) outcome writes
+IsTrueTo false rights call program outcome writes reads = Unit {0}
+
+-- A run that its client sent belongs to this journal: each of its reads is what the journal held when it
+-- was made, its extension's number names a program, and its tables are those that its tenant may read
+-- and write. Under audit its end is true to that program.
+pub record SentOn (grants : GrantsList) (audit : Bool) (journal : List Entry) (call : Call) (outcome : Outcome) (writes : List Write) (reads : List ReadItem) : Type 0 where
+  pub program : Program
+  pub held : AllByRecursion (IsHeld journal) reads
+  pub named : Names journal call program
+  pub within : CallIsWithin grants journal call writes reads
+  pub true_to : IsTrueTo audit (granted grants journal call.caller.tenant) call program outcome writes reads
+
+-- An entry may join the journal: it is within its limits and its grants, and it is sound where no read
+-- of its run has moved.
+pub record MayJoin (grants : GrantsList) (audit : Bool) (journal : List Entry) (entry : Entry) (reads : List ReadItem) : Type 0 where
+  pub fits : EntryFits entry
+  pub within : WithinAt grants journal entry
+  pub sound : AllByRecursion (IsCurrent journal) reads → SoundAt grants audit journal entry
 
 -- grants, limit and audit of a book never change
 pub record KeepsFixed (before after : BookValue) : Type 0 where

@@ -12,6 +12,7 @@ use Rattle.sp_base.specs.RightsList.{can_read, can_write}
 use Rattle.ext_mean.specs.Views.{place_of}
 use Rattle.book.specs.declared.answers.Commit.{Commit}
 use Rattle.book.specs.declared.answers.Commit.TheVariants.{Committed, Stale, Conflict, Full}
+use Rattle.book.specs.declared.ended.Ended.{Ended}
 use Rattle.book.specs.declared.answers.Install.{Install}
 use Rattle.book.specs.declared.answers.Install.TheVariants as install
 use Rattle.book.specs.declared.answers.Put.{Put}
@@ -20,7 +21,8 @@ use Rattle.book.specs.declared.answers.Read.{Read}
 use Rattle.book.specs.declared.answers.Read.TheVariants as read
 use Rattle.journal.specs.declared.entry.Entry.{Entry}
 use Rattle.journal.specs.declared.entry.Entry.TheVariants as entry
-use Rattle.journal.specs.declared.entry.Home.TheVariants.{Server}
+use Rattle.journal.specs.declared.entry.Home.{Home}
+use Rattle.journal.specs.declared.entry.Home.TheVariants.{Server, Client}
 use Rattle.records.specs.GrantsList.{GrantsList}
 use Rattle.records.specs.Records.{place_at}
 use Rattle.journal.specs.Folds.{tables_of, version_of, texts_of, last_of}
@@ -46,9 +48,19 @@ moved journal [] = None
 moved journal (read ∷ reads) =
     if read.version == version_of journal (place_of read) then moved journal reads else Some read
 
--- the entry of a run that ended in the server
+-- the entry of a run, which keeps its reads bare: of one that ended in the server, and of one that its
+-- client sent
+abbrev pub entry_at : Home → Call → Outcome → List Write → List ReadItem → Entry
+entry_at home call outcome writes reads = entry.Invoke call outcome writes (map bare reads) home
+
 abbrev pub entry_of : Call → Outcome → List Write → List ReadItem → Entry
-entry_of call outcome writes reads = entry.Invoke call outcome writes (map bare reads) Server
+entry_of call outcome writes reads = entry_at Server call outcome writes reads
+
+abbrev pub sent_entry : Call → Outcome → List Write → List ReadItem → Entry
+sent_entry call outcome writes reads = entry_at Client call outcome writes reads
+
+abbrev pub entry_in : Ended → Entry
+entry_in ended = entry_at ended.home ended.call ended.outcome ended.writes ended.reads
 
 -- the verdict where no read has moved, and where this one has
 abbrev pub verdict_on : ℕ → List Entry → Entry → Outcome → Option ReadItem → Commit

@@ -1,7 +1,9 @@
 ghost use Rattle.std.specs.Prelude.{◌≡◌, ◌≤◌, ◌+◌, ◌<◌, ◌⊎◌, ◌↔◌, IsTrue, IfOk, IfSome, IfNone, OnOk, OnErr, List, [], None, length, slice_get};
 ghost use Rattle.std.specs.Arc.{arc_value};
+ghost use Rattle.std.specs.List.{AllByRecursion};
 ghost use Rattle.std.specs.Option.{option_map};
 ghost use Rattle.sp_base.specs.Limits.{IsArguments, IsText, IsValue};
+ghost use Rattle.ext_mean.specs.Outcomes.{ChangeFits, ReplyFits};
 ghost use Rattle.ext_mean.specs.Views.{place_of};
 ghost use Rattle.records.specs.Records.{place_at};
 ghost use Rattle.journal.specs.declared.entry.Entry.{Entry};
@@ -10,18 +12,19 @@ ghost use Rattle.journal.specs.Granted.{granted};
 ghost use Rattle.journal.specs.Reads.{bare};
 ghost use Rattle.journal.specs.Sizes.{EntryFits};
 ghost use Rattle.book.specs.Indexes.{HasExt, text_of};
-ghost use Rattle.book.specs.Standing.{IsSound, KeepsFixed, RanOn, StandsFor};
-ghost use Rattle.book.specs.Verdict.{FoundFits, grown, is_full, is_full_for, item_at, entry_of, moved, verdict, verdict_on, after_commit, put_answer, after_put, install_answer, after_install, read_answer, CommitTakesMemory, InstallTakesMemory, PutTakesMemory, ReadTakesMemory};
+ghost use Rattle.book.specs.Standing.{IsSound, KeepsFixed, MayJoin, RanOn, SentOn, StandsFor};
+ghost use Rattle.book.specs.Verdict.{FoundFits, grown, is_full, is_full_for, item_at, entry_in, entry_of, sent_entry, moved, verdict, verdict_on, after_commit, put_answer, after_put, install_answer, after_install, read_answer, CommitTakesMemory, InstallTakesMemory, PutTakesMemory, ReadTakesMemory};
 
 use crate::answers::{Commit, Install, Put, Read};
 use crate::changes::{changes_of, make_all};
+use crate::ended::Ended;
 use crate::exts::{Exts, sized_text};
 use crate::lasts::Lasts;
 use crate::notes::note;
-use crate::reads::{kept_reads, nth_read};
-use journal::{Entry, Home, Journal, entry_size, install_size};
+use crate::reads::nth_read;
+use journal::{Entry, Journal, entry_size, install_size};
 use records::{Grants, Tables};
-use rw_set::Finished;
+use rw_set::{Finished, Sent};
 use sp_base::{
     Blob, Caller, ExtNo, Key, Level, MOST_ENTRIES, MOST_JOURNAL, Memory, ReadItem, Rights, TableId,
     TenantId,
@@ -319,18 +322,53 @@ impl Book {
             → CommitTakesMemory (verdict self.old.limit journal done.call
             (entry_of done.call done.outcome done.writes done.reads) done.outcome done.reads) }
     {
-        let last = self.lasts.get(done.call.caller);
-        if done.call.number.0 <= last {
+        self.judge(Ended::here(done))
+    }
+
+    /// Commits a run that its client sent, as `commit` does one that ended in the server.
+    pub fn commit_sent(&mut self, sent: Sent) -> Commit
+        requires arguments { IsArguments sent.call.args }
+        requires reply { ReplyFits sent.outcome }
+        requires values { AllByRecursion ChangeFits sent.writes }
+        requires ran { (journal : List Entry) → StandsFor self.old journal
+            → SentOn self.old.grants self.old.audit journal sent.call sent.outcome sent.writes sent.reads }
+        ensures answer { (journal : List Entry) → StandsFor self.old journal
+            → (result ≡ Commit.Memory) ⊎ (result ≡ verdict self.old.limit journal sent.call
+            (sent_entry sent.call sent.outcome sent.writes sent.reads) sent.outcome sent.reads) }
+        ensures stands { (journal : List Entry) → StandsFor self.old journal
+            → StandsFor self.new (after_commit result journal (sent_entry sent.call sent.outcome sent.writes sent.reads)) }
+        ensures fixed { KeepsFixed self.old self.new }
+        // A refusal comes before want of memory.
+        ensures memory { (journal : List Entry) → StandsFor self.old journal → result ≡ Commit.Memory
+            → CommitTakesMemory (verdict self.old.limit journal sent.call
+            (sent_entry sent.call sent.outcome sent.writes sent.reads) sent.outcome sent.reads) }
+    {
+        self.judge(Ended::away(sent))
+    }
+
+    /// Commits a run that may join the journal, wherever it ended.
+    fn judge(&mut self, ended: Ended) -> Commit
+        requires joins { (journal : List Entry) → StandsFor self.old journal
+            → MayJoin self.old.grants self.old.audit journal (entry_in ended) ended.reads }
+        ensures answer { (result ≡ Commit.Memory)
+            ⊎ (result ≡ verdict self.old.limit self.old.journal ended.call (entry_in ended) ended.outcome ended.reads) }
+        ensures book { self.new ≡ record self.old { journal = after_commit result self.old.journal (entry_in ended) } }
+        ensures stands { StandsFor self.new (after_commit result self.old.journal (entry_in ended)) }
+        ensures memory { result ≡ Commit.Memory
+            → CommitTakesMemory (verdict self.old.limit self.old.journal ended.call (entry_in ended) ended.outcome ended.reads) }
+    {
+        let last = self.lasts.get(ended.call.caller);
+        if ended.call.number.0 <= last {
             return Commit::Stale {
                 last,
                 at: self.journal.len(),
             };
         }
-        if let Some(index) = self.first_moved(done.reads.items()) {
-            let Finished { reads, .. } = done;
+        if let Some(index) = self.first_moved(ended.reads.items()) {
+            let Ended { reads, .. } = ended;
             return self.conflict(nth_read(reads.into_reads(), index));
         }
-        self.settle(done)
+        self.settle(ended)
     }
 
     fn conflict(&self, moved: ReadItem) -> Commit
@@ -349,38 +387,20 @@ impl Book {
     }
 
     /// Commits a run whose reads have not moved, where there is room for its entry.
-    fn settle(&mut self, done: Finished) -> Commit
-        requires arguments { IsArguments done.call.args }
-        requires ran { RanOn self.old.grants self.old.journal done.call (arc_value done.program) done.rights done.reads }
-        requires in_order { last_of self.old.journal done.call.caller < done.call.number.0 }
-        requires still { moved self.old.journal done.reads ≡ None }
-        ensures answer { (result ≡ Commit.Memory) ⊎ (result ≡ verdict_on self.old.limit self.old.journal
-            (entry_of done.call done.outcome done.writes done.reads) done.outcome None) }
-        ensures book { self.new ≡ record self.old {
-          journal = after_commit result self.old.journal
-              (entry_of done.call done.outcome done.writes done.reads);
-        } }
-        ensures stands { StandsFor self.new (after_commit result self.old.journal
-            (entry_of done.call done.outcome done.writes done.reads)) }
-        ensures memory { result ≡ Commit.Memory → CommitTakesMemory (verdict_on self.old.limit self.old.journal
-            (entry_of done.call done.outcome done.writes done.reads) done.outcome None) }
+    fn settle(&mut self, ended: Ended) -> Commit
+        requires joins { MayJoin self.old.grants self.old.audit self.old.journal (entry_in ended) ended.reads }
+        requires in_order { last_of self.old.journal ended.call.caller < ended.call.number.0 }
+        requires still { moved self.old.journal ended.reads ≡ None }
+        ensures answer { (result ≡ Commit.Memory)
+            ⊎ (result ≡ verdict_on self.old.limit self.old.journal (entry_in ended) ended.outcome None) }
+        ensures book { self.new ≡ record self.old { journal = after_commit result self.old.journal (entry_in ended) } }
+        ensures stands { StandsFor self.new (after_commit result self.old.journal (entry_in ended)) }
+        ensures memory { result ≡ Commit.Memory
+            → CommitTakesMemory (verdict_on self.old.limit self.old.journal (entry_in ended) ended.outcome None) }
     {
         let n = self.journal().len();
-        let Finished {
-            call,
-            reads,
-            outcome,
-            writes,
-            ..
-        } = done;
-        let shown = outcome.share(self.alloc);
-        let entry = Entry::Invoke {
-            call,
-            outcome,
-            writes,
-            reads: kept_reads(reads),
-            home: Home::Server,
-        };
+        let shown = ended.outcome.share(self.alloc);
+        let entry = ended.into_entry();
         let size = entry_size(&entry);
         if self.is_full(size) {
             return Commit::Full { at: n };

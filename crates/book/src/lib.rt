@@ -8,6 +8,8 @@
 mod answers;
 mod book;
 mod changes;
+mod ended;
+mod ends;
 mod exts;
 mod keeps;
 mod lasts;
@@ -17,5 +19,6 @@ mod reads;
 
 pub use answers::{Commit, Install, Put, Read};
 pub use book::Book;
+pub use ends::{CallEnd, End};
 pub use keeps::BookFixed;
 pub use laws::{audited_is_legal, conflicts_name_moved_reads, legal_killed_are_spent};

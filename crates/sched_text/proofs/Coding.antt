@@ -10,7 +10,7 @@ use Rattle.sched_text.specs.declared.code.LineCode.TheVariants as code
 use Rattle.sched_text.specs.declared.draft.Draft.{Draft}
 use Rattle.sched_text.specs.declared.line.ScriptLine.{ScriptLine}
 use Rattle.sched_text.specs.declared.line.ScriptLine.TheVariants.{Tenant, Table, Policy, Limit, Workers, Ext, Body}
-use Rattle.sched_text.specs.Drafts.{is_late, is_repeated, lacks_tenant, lacks_worker, lacks_text, is_too_many, is_not_yet, first_code, code_of, lines_taken}
+use Rattle.sched_text.specs.Drafts.{is_late, is_repeated, lacks_tenant, lacks_worker, lacks_text, is_too_many, first_code, code_of, lines_taken}
 use Rattle.sched_text.specs.Fits.{LineFits}
 use Rattle.records.specs.GrantsList.{rights_of}
 use Rattle.sched_text.specs.Tenants.{has_table}
@@ -24,7 +24,6 @@ pub record Good (draft : Draft) (behind : List (List ℕ)) (line : ScriptLine) :
   pub worker : lacks_worker draft line ≡ false
   pub text : lacks_text behind line ≡ false
   pub many : is_too_many draft line ≡ false
-  pub built : is_not_yet line ≡ false
 
 record NoRow (row : Bool × LineCode) (rows : List (Bool × LineCode)) : Type 0 where
   failed : row.0 ≡ false
@@ -37,8 +36,7 @@ tested false told rows e = record { failed = refl; others = e }
 pub good_line : (draft : Draft) (behind : List (List ℕ)) (line : ScriptLine) → code_of draft behind line ≡ None → Good draft behind line
 unfolding code_of
 good_line draft behind line e =
-    let after_many : List (Bool × LineCode) = (is_not_yet line, code.NotYet) ∷ [] in
-    let after_text : List (Bool × LineCode) = (is_too_many draft line, code.Many) ∷ after_many in
+    let after_text : List (Bool × LineCode) = (is_too_many draft line, code.Many) ∷ [] in
     let after_worker : List (Bool × LineCode) = (lacks_text behind line, code.Text) ∷ after_text in
     let after_tenant : List (Bool × LineCode) = (lacks_worker draft line, code.NoWorker) ∷ after_worker in
     let after_repeated : List (Bool × LineCode) = (lacks_tenant draft line, code.NoTenant) ∷ after_tenant in
@@ -48,9 +46,8 @@ good_line draft behind line e =
     let tenant = tested (lacks_tenant draft line) code.NoTenant after_tenant repeated.others in
     let worker = tested (lacks_worker draft line) code.NoWorker after_worker tenant.others in
     let text = tested (lacks_text behind line) code.Text after_text worker.others in
-    let many = tested (is_too_many draft line) code.Many after_many text.others in
-    let built = tested (is_not_yet line) code.NotYet [] many.others in
-    record { late = late.failed; repeated = repeated.failed; tenant = tenant.failed; worker = worker.failed; text = text.failed; many = many.failed; built = built.failed }
+    let many = tested (is_too_many draft line) code.Many [] text.others in
+    record { late = late.failed; repeated = repeated.failed; tenant = tenant.failed; worker = worker.failed; text = text.failed; many = many.failed }
 
 pub table_absent : (draft : Draft) (behind : List (List ℕ)) (table : TableId) (tenant : TenantId) (level : Level) → code_of draft behind (Table table tenant level) ≡ None → has_table (rights_of draft.rights tenant) table ≡ false
 table_absent draft behind table tenant level e = (good_line draft behind (Table table tenant level) e).repeated

@@ -91,18 +91,6 @@ is_too_many draft (Tenant tenant key) = nat_le 1024 (length draft.rights)
 is_too_many draft (Table table tenant level) = nat_le 64 (length (rights_of draft.rights tenant))
 is_too_many draft _ = false
 
--- NotYet: a form that is not built
-abbrev pub is_event_not_yet : Event → Bool
-is_event_not_yet (event.Begin worker tenant asked) = asked.push_ok
-is_event_not_yet (event.Away tenant caller) = true
-is_event_not_yet (event.Cut tenant caller) = true
-is_event_not_yet _ = false
-
-abbrev pub is_not_yet : ScriptLine → Bool
-is_not_yet (Policy policy) = true
-is_not_yet (Body event) = is_event_not_yet event
-is_not_yet _ = false
-
 -- the first code whose test is passed
 abbrev pub first_code : List (Bool × LineCode) → Option LineCode
 first_code [] = None
@@ -117,7 +105,6 @@ code_of draft behind line = first_code
     ∷ (lacks_worker draft line, code.NoWorker)
     ∷ (lacks_text behind line, code.Text)
     ∷ (is_too_many draft line, code.Many)
-    ∷ (is_not_yet line, code.NotYet)
     ∷ [])
 
 -- ---- what a line adds

@@ -1,7 +1,7 @@
 -- The words by which reports name what is wrong with a line.
 use Rattle.std.specs.Prelude.{ℕ, List, codes}
 use Rattle.sched_text.specs.declared.code.LineCode.{LineCode}
-use Rattle.sched_text.specs.declared.code.LineCode.TheVariants.{Long, Many, Word, Count, Field, Order, Twice, NoTenant, NoWorker, Text, Refused, NotYet}
+use Rattle.sched_text.specs.declared.code.LineCode.TheVariants.{Long, Many, Word, Count, Field, Order, Twice, NoTenant, NoWorker, Text, Refused}
 
 abbrev pub code_word : LineCode → List ℕ
 code_word Long = codes "Long"
@@ -15,4 +15,3 @@ code_word NoTenant = codes "NoTenant"
 code_word NoWorker = codes "NoWorker"
 code_word Text = codes "Text"
 code_word Refused = codes "Refused"
-code_word NotYet = codes "NotYet"

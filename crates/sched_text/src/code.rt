@@ -39,9 +39,6 @@ pub enum LineCode {
     /// A set-up line that the book refused; no reader tells this.
     #[error("Refused")]
     Refused,
-    /// A form that is not built yet.
-    #[error("NotYet")]
-    NotYet,
 }
 
 impl LineCode {
@@ -61,7 +58,6 @@ impl LineCode {
             LineCode::NoWorker => b"NoWorker",
             LineCode::Text => b"Text",
             LineCode::Refused => b"Refused",
-            LineCode::NotYet => b"NotYet",
         }
     }
 }

@@ -3,7 +3,7 @@
 ghost use Rattle.std.specs.Prelude.{◌≡◌, ◌≤◌, true, None, IfOk, OnOk, take};
 ghost use Rattle.std.specs.List.{concat};
 ghost use Rattle.sched_text.specs.declared.event.Event.TheVariants.{Ext};
-ghost use Rattle.sched_text.specs.Drafts.{workers_of, has_workers, is_late, is_repeated, tenant_of, tenant_named, lacks_tenant, lacks_worker, lacks_text, is_too_many, is_event_not_yet, is_not_yet, code_of, with_event, with_line, lines_taken, no_lines, script_of};
+ghost use Rattle.sched_text.specs.Drafts.{workers_of, has_workers, is_late, is_repeated, tenant_of, tenant_named, lacks_tenant, lacks_worker, lacks_text, is_too_many, code_of, with_event, with_line, lines_taken, no_lines, script_of};
 ghost use Rattle.sched_text.specs.Fits.{LineFits, DraftFits};
 ghost use Rattle.sched_text.specs.Judged.{after_line};
 ghost use Rattle.sched_text.specs.Results.{Gives};
@@ -73,28 +73,6 @@ fn lacks_text(behind: &[u8], line: &ScriptLine) -> bool
 {
     match line {
         ScriptLine::Ext { lines, .. } => end_of_lines(behind, *lines).is_none(),
-        _ => false,
-    }
-}
-
-/// Whether an event is of a form that is not built.
-fn is_event_not_yet(event: &Event) -> bool
-    ensures { result ≡ is_event_not_yet event.now }
-{
-    match event {
-        Event::Begin { asked, .. } => asked.push_ok,
-        Event::Away { .. } | Event::Cut { .. } => true,
-        _ => false,
-    }
-}
-
-/// Whether a line is of a form that is not built.
-fn is_not_yet(line: &ScriptLine) -> bool
-    ensures { result ≡ is_not_yet line.now }
-{
-    match line {
-        ScriptLine::Policy(_) => true,
-        ScriptLine::Body(event) => is_event_not_yet(event),
         _ => false,
     }
 }
@@ -208,8 +186,6 @@ impl Draft {
             Some(LineCode::Text)
         } else if self.is_too_many(line) {
             Some(LineCode::Many)
-        } else if is_not_yet(line) {
-            Some(LineCode::NotYet)
         } else {
             None
         }

@@ -64,3 +64,32 @@ fn a_script_is_read_whole(rt: HostRuntime) -> Result<(), Fail> {
     assert_eq!(rt; asked.args.bytes(), [10, 255].as_slice());
     Ok(())
 }
+
+#[test]
+fn pushed_calls_are_read(rt: HostRuntime) -> Result<(), Fail> {
+    let text = b"tenant 2 7\npolicy 3 17\nbegin 0 2 1 1 0 100 push x\naway 2 8\ncut 2 9\n";
+    let Ok(script) = read_script(rt.alloc(), text) else {
+        return Err("no script")?;
+    };
+    assert_eq!(rt; script.head.policy, Policy { high: 3, least: 17 });
+    let [(_, begin), (away_line, away), (cut_line, cut)] = script.events.as_slice() else {
+        return Err("three events")?;
+    };
+    let Event::Begin { asked, .. } = begin else {
+        return Err("a call")?;
+    };
+    assert_eq!(rt; asked.push_ok, true);
+    let Event::Away { tenant, caller } = away else {
+        return Err("a pushed call that goes on")?;
+    };
+    assert_eq!(rt; *away_line, 4);
+    assert_eq!(rt; *tenant, TenantId(2));
+    assert_eq!(rt; *caller, 8);
+    let Event::Cut { tenant, caller } = cut else {
+        return Err("a pushed call that is forgotten")?;
+    };
+    assert_eq!(rt; *cut_line, 5);
+    assert_eq!(rt; *tenant, TenantId(2));
+    assert_eq!(rt; *caller, 9);
+    Ok(())
+}

@@ -1,7 +1,7 @@
 -- The events but for turns, by what they do to book, queues and index.
-use Rattle.std.specs.Prelude.{option_map, slice_get, if◌then◌else◌}
+use Rattle.std.specs.Prelude.{slice_get, if◌then◌else◌}
 use Rattle.std.specs.List.{AllZip}
-use Rattle.std.proofs.Common.{◌≡◌, ◌≢◌, ◌<◌, ◌⊎◌, ℕ, zero, suc, List, [], ◌∷◌, ◌++◌, length, Option, Some, None, inl, inr, refl, ap, sym, ◌∙◌, subst}
+use Rattle.std.proofs.Common.{◌≡◌, ◌≢◌, ◌<◌, ◌⊎◌, ℕ, zero, suc, List, [], ◌∷◌, ◌++◌, length, Option, Some, None, inl, inr, refl, ap, sym, ◌∙◌, subst, arith}
 use Rattle.sp_base.specs.declared.calls.Call.{Call}
 use Rattle.sp_base.specs.declared.numbers.CallNo.{CallNo}
 use Rattle.sp_base.specs.declared.numbers.Caller.{Caller}
@@ -29,17 +29,19 @@ use Rattle.sched_text.specs.declared.event.Event.TheVariants as event
 use Rattle.task.specs.declared.ext_fault.ExtFault.{ExtFault}
 use Rattle.task.specs.Extensions.{Explains, ExtValue, IsExtension}
 use Rattle.task.specs.Turning.{Live, begun}
-use Rattle.sim.specs.declared.callers.Callers.{Callers}
+use Rattle.clients.specs.declared.callers.Callers.{Callers}
+use Rattle.clients.specs.Numbering.{number_of}
 use Rattle.sim.specs.declared.sim.Sim.{Sim}
 use Rattle.sim.specs.Counting.{Indexes}
 use Rattle.sim.specs.Play.{Accepted, Refused, Told, after_installed, begin_event, begin_told, install_said, install_told, of_call, put_event, put_said, put_told, steal_event, steal_first}
-use Rattle.sim.specs.Queueing.{Takes, number_of, with_back}
+use Rattle.sim.specs.Queueing.{Takes, with_back}
 use Rattle.sim.specs.Standing.{AreInstalled, FaultTold, IsLive, Played, StandsAt, Tells, workers_of}
-use Rattle.sim.specs.State.{SimState, exts_of, queue_of, queued, with_journal, with_queue}
+use Rattle.sim.specs.State.{SimState, all_calls, exts_of, queue_of, queued, with_journal, with_queue}
 use Rattle.sim.proofs.Growing.{extension-at, installed-more, one-extension, zip-length}
 use Rattle.sim.proofs.Indexing.{index-none, index-some, indexed-begun}
 use Rattle.sim.proofs.Totals.{all-back, all-taken}
-use Rattle.sim.proofs.Turning.{back-stands, installed-still, live-still, small-of, taken-of, tells-by}
+use Rattle.sim.proofs.Moving.{back-stands, installed-still, live-still, shifted, small-of, taken-of}
+use Rattle.sim.proofs.Turning.{tells-by}
 
 -- ---- Putting
 
@@ -64,9 +66,9 @@ pub put-tells : (old new : Sim) (tenant : TenantId) (table : TableId) (key value
     → ((journal : List Entry) → StandsFor old.book journal
     → (given ≡ put.Memory) ⊎ (given ≡ put_answer old.book.grants old.book.limit journal tenant table (entry.Put tenant table key value)))
     → ((journal : List Entry) → StandsFor old.book journal → StandsFor new.book (after_put given journal (entry.Put tenant table key value)))
-    → KeepsFixed old.book new.book → new.queues ≡ old.queues → new.next ≡ old.next → new.callers ≡ old.callers
+    → KeepsFixed old.book new.book → new.policy ≡ old.policy → new.queues ≡ old.queues → new.pushed ≡ old.pushed → new.next ≡ old.next → new.callers ≡ old.callers
     → Tells old new (λ state. put_event state tenant table key value) line
-put-tells old new tenant table key value given line some told answers stands fixed queues next callers =
+put-tells old new tenant table key value given line some told answers stands fixed policy queues pushed next callers =
     tells-by old new (λ state. put_event state tenant table key value) line (λ (state : SimState) (at : StandsAt old state).
     let last : Entry = entry.Put tenant table key value in
     let is = put-is state old.book.grants old.book.limit tenant table last given at.grants at.limit some (answers state.journal at.book) in
@@ -74,13 +76,15 @@ put-tells old new tenant table key value given line some told answers stands fix
     let left : StandsAt new (with_journal state (after_put given state.journal last)) = record {
       book = stands state.journal at.book;
       grants = fixed.grants ∙ at.grants;
+      policy = policy ∙ at.policy;
       limit = fixed.limit ∙ at.limit;
       audit = fixed.audit ∙ at.audit;
       queues = queues ∙ at.queues;
+      pushed = pushed ∙ at.pushed;
       next = next ∙ at.next;
-      indexed = subst (λ (c : Callers). Indexes c state.queues) (sym callers) at.indexed;
+      indexed = subst (λ (c : Callers). Indexes c (all_calls state)) (sym callers) at.indexed;
       installed = installed-still state.journal (after_put given state.journal last) last state.installed (λ other. refl) grows at.installed;
-      live = live-still state.grants state.journal (after_put given state.journal last) last state.queues grows at.live;
+      live = live-still state.grants state.journal (after_put given state.journal last) last (all_calls state) grows at.live;
     } in
     (told ∙ ap put_said is, subst (λ (p : Put). StandsAt new (put_told state last p).1) is left))
 
@@ -100,7 +104,8 @@ steal-tells old new between worker other live line fits small takes told left =
     let own = taken-of old state between other live at takes in
     let event : steal_event state worker other ≡ (of_call live.call said.Moved, queued (with_queue state other own.rest) worker live) =
     ap (steal_first state worker other) own.first in
-    let lives = (all-taken (IsLive state.grants state.journal) state.queues between other live own at.live).0 in
+    let lives = (all-taken (IsLive state.grants state.journal) (all_calls state) (state.pushed ∷ between) (suc other) live
+    (shifted state.pushed state.queues between other live own) at.live).0 in
     let stands = back-stands old state between other worker live live at own small fits refl lives in (
       told ∙ ap (λ (t : Told). t.0) (sym event),
       subst (λ (s : Sim). StandsAt s (steal_event state worker other).1) (sym left)
@@ -135,9 +140,9 @@ pub install-played : (old new : Sim) (tenant : TenantId) (text : List ℕ) (ext 
     → ((journal : List Entry) → StandsFor old.book journal
     → (given ≡ install.Memory) ⊎ (given ≡ install_answer old.book.limit journal tenant (entry.Install tenant ext.text)))
     → ((journal : List Entry) → StandsFor old.book journal → StandsFor new.book (after_install given journal (entry.Install tenant ext.text)))
-    → KeepsFixed old.book new.book → new.queues ≡ old.queues → new.next ≡ old.next → new.callers ≡ old.callers
+    → KeepsFixed old.book new.book → new.policy ≡ old.policy → new.queues ≡ old.queues → new.pushed ≡ old.pushed → new.next ≡ old.next → new.callers ≡ old.callers
     → Played old new (event.Ext tenant text) line
-install-played old new tenant text ext given line is some told answers stands fixed queues next callers =
+install-played old new tenant text ext given line is some told answers stands fixed policy queues pushed next callers =
     let mine : ExtValue = record { text = text; program = ext.program } in
     let same : ext ≡ mine = ap (λ (t : List ℕ). let e : ExtValue = record { text = t; program = ext.program } in e) is.text_is in
     let own : IsExtension ext.text ext = record { text_is = refl; accepted = subst (λ (t : List ℕ). IsAccepted t ext.program) (sym is.text_is) is.accepted } in
@@ -151,13 +156,15 @@ install-played old new tenant text ext given line is some told answers stands fi
           let left : StandsAt new (install_told state tenant ext given).1 = record {
             book = stands state.journal at.book;
             grants = fixed.grants ∙ at.grants;
+            policy = policy ∙ at.policy;
             limit = fixed.limit ∙ at.limit;
             audit = fixed.audit ∙ at.audit;
             queues = queues ∙ at.queues;
+            pushed = pushed ∙ at.pushed;
             next = next ∙ at.next;
-            indexed = subst (λ (c : Callers). Indexes c state.queues) (sym callers) at.indexed;
+            indexed = subst (λ (c : Callers). Indexes c (all_calls state)) (sym callers) at.indexed;
             installed = after-install-installed given state.journal state.installed tenant ext at.installed own;
-            live = live-still state.grants state.journal after last state.queues (install-grows given state.journal last) at.live;
+            live = live-still state.grants state.journal after last (all_calls state) (install-grows given state.journal last) at.live;
           } in
           let rule : install_told state tenant ext given ≡ install_told state tenant mine (install_answer state.limit state.journal tenant (entry.Install tenant text)) =
           ap (install_told state tenant ext) answer
@@ -181,27 +188,19 @@ rejected-played sim tenant text given told is explains =
 
 -- ---- Beginning
 
-some-number : (found : Option ℕ) (number : CallNo) → Some number ≡ option_map (λ n. let made : CallNo = record { 0 = n } in made) found → found ≡ Some number.0
-some-number None number e = absurd cc
-some-number (Some n) number e = let made : CallNo = record { 0 = n } in let same : number ≡ made = cc in ap (λ (m : CallNo). Some m.0) (sym same)
-
-pub busy-tells : (sim : Sim) (worker : ℕ) (call : Call) (number : CallNo) (line : Line)
-    → Some number ≡ option_map (λ n. let made : CallNo = record { 0 = n } in made) (number_of sim.callers call.caller)
-    → line ≡ of_call call (said.Busy number) → Tells sim sim (λ state. begin_event state worker call) line
+pub busy-tells : (sim : Sim) (worker : ℕ) (call : Call) (number : ℕ) (line : Line)
+    → number_of sim.callers call.caller ≡ Some number
+    → line ≡ of_call call (said.Busy (record { 0 = number })) → Tells sim sim (λ state. begin_event state worker call) line
 busy-tells sim worker call number line busy told =
     tells-by sim sim (λ state. begin_event state worker call) line (λ (state : SimState) (at : StandsAt sim state).
-    let n : number_of sim.callers call.caller ≡ Some number.0 = some-number (number_of sim.callers call.caller) number busy in
-    let found = index-some sim.callers state.queues call.caller number.0 at.indexed n in
-    let same : number ≡ found.live.call.number = ap (λ (m : ℕ). let made : CallNo = record { 0 = m } in made) (sym found.number) in
+    let found = index-some sim.callers (all_calls state) call.caller number at.indexed busy in
+    let busy_with : CallNo = record { 0 = number } in
+    let same : busy_with ≡ found.live.call.number = ap (λ (m : ℕ). let made : CallNo = record { 0 = m } in made) (sym found.number) in
     let event : begin_event state worker call ≡ (of_call call (said.Busy found.live.call.number), state) =
     ap (λ (l : Option Live). begin_told state worker call l (slice_get (exts_of state.installed call.caller.tenant) call.ext.0)) found.is in (
       told ∙ ap (λ (m : CallNo). of_call call (said.Busy m)) same ∙ ap (λ (t : Told). t.0) (sym event),
       subst (λ (t : Told). StandsAt sim t.1) (sym event) at,
     ))
-
-no-number : (found : Option ℕ) → None ≡ option_map (λ n. let made : CallNo = record { 0 = n } in made) found → found ≡ None
-no-number None e = refl
-no-number (Some n) e = absurd cc
 
 zip-none : (texts : List (List ℕ)) (exts : List ExtValue) (at : ℕ) → AllZip IsExtension texts exts → slice_get texts at ≡ None → slice_get exts at ≡ None
 zip-none [] [] at all none = refl
@@ -211,13 +210,13 @@ zip-none (text ∷ texts) (ext ∷ exts) zero all none = absurd cc
 zip-none (text ∷ texts) (ext ∷ exts) (suc at) all none = zip-none texts exts at all.1 none
 
 pub missing-tells : (sim : Sim) (worker : ℕ) (call : Call) (count : ℕ) (line : Line)
-    → None ≡ option_map (λ n. let made : CallNo = record { 0 = n } in made) (number_of sim.callers call.caller)
+    → number_of sim.callers call.caller ≡ None
     → ((journal : List Entry) → StandsFor sim.book journal → slice_get (texts_of journal call.caller.tenant) call.ext.0 ≡ None)
     → ((journal : List Entry) → StandsFor sim.book journal → count ≡ length (texts_of journal call.caller.tenant))
     → line ≡ of_call call (said.NoExtension count) → Tells sim sim (λ state. begin_event state worker call) line
 missing-tells sim worker call count line free missing counts told =
     tells-by sim sim (λ state. begin_event state worker call) line (λ (state : SimState) (at : StandsAt sim state).
-    let none = index-none sim.callers state.queues call.caller at.indexed (no-number (number_of sim.callers call.caller) free) in
+    let none = index-none sim.callers (all_calls state) call.caller at.indexed free in
     let exts : List ExtValue = exts_of state.installed call.caller.tenant in
     let texts : List (List ℕ) = texts_of state.journal call.caller.tenant in
     let gone : slice_get exts call.ext.0 ≡ None = zip-none texts exts call.ext.0 (at.installed call.caller.tenant) (missing state.journal at.book) in
@@ -231,17 +230,16 @@ missing-tells sim worker call count line free missing counts told =
 
 pub begun-tells : (old new : Sim) (worker : ℕ) (call : Call) (ext : ExtValue) (rights : List (TableId × Level)) (line : Line)
     → worker < workers_of old
-    → None ≡ option_map (λ n. let made : CallNo = record { 0 = n } in made) (number_of old.callers call.caller)
+    → number_of old.callers call.caller ≡ None
     → ((journal : List Entry) → StandsFor old.book journal → slice_get (texts_of journal call.caller.tenant) call.ext.0 ≡ Some ext.text)
     → IsAccepted ext.text ext.program
     → ((journal : List Entry) → StandsFor old.book journal → rights ≡ granted old.book.grants journal call.caller.tenant)
     → ((caller : Caller) → number_of new.callers caller ≡ (if same_caller call.caller caller then Some call.number.0 else number_of old.callers caller))
-    → new.book ≡ old.book → new.next ≡ old.next → new.queues ≡ with_back old.queues worker (begun call ext rights)
+    → new.book ≡ old.book → new.policy ≡ old.policy → new.pushed ≡ old.pushed → new.next ≡ old.next → new.queues ≡ with_back old.queues worker (begun call ext rights)
     → line ≡ of_call call said.Queued → Tells old new (λ state. begin_event state worker call) line
-begun-tells old new worker call ext rights line small free found accepted own added book next queues told =
+begun-tells old new worker call ext rights line small free found accepted own added book policy pushed next queues told =
     tells-by old new (λ state. begin_event state worker call) line (λ (state : SimState) (at : StandsAt old state).
-    let no = no-number (number_of old.callers call.caller) free in
-    let none = index-none old.callers state.queues call.caller at.indexed no in
+    let none = index-none old.callers (all_calls state) call.caller at.indexed free in
     let exts : List ExtValue = exts_of state.installed call.caller.tenant in
     let texts : List (List ℕ) = texts_of state.journal call.caller.tenant in
     let has = extension-at texts exts call.ext.0 ext.text (at.installed call.caller.tenant) (found state.journal at.book) in
@@ -256,17 +254,21 @@ begun-tells old new worker call ext rights line small free found accepted own ad
     let named : Names state.journal call ext.program = record { text = ext.text; found = found state.journal at.book; spelled = accepted.spelled } in
     let ran : RanOn state.grants state.journal call ext.program list [] = record { held = tt; named = named; own = refl } in
     let lives : IsLive state.grants state.journal live = record { ready = refl; ran = ran } in
+    let here = small-of old state worker at small in
+    let behind : suc worker < length (all_calls state) = omega (arith, here) in
     let left : StandsAt new (queued state worker live) = record {
       book = subst (λ (b : BookValue). StandsFor b state.journal) (sym book) at.book;
       grants = ap (λ (b : BookValue). b.grants) book ∙ at.grants;
+      policy = policy ∙ at.policy;
       limit = ap (λ (b : BookValue). b.limit) book ∙ at.limit;
       audit = ap (λ (b : BookValue). b.audit) book ∙ at.audit;
       queues = queues ∙ ap (λ (r : List (TableId × Level)). with_back old.queues worker (begun call ext r)) given
           ∙ ap (λ (qs : List (List Live)). with_back qs worker live) at.queues;
+      pushed = pushed ∙ at.pushed;
       next = next ∙ at.next;
-      indexed = indexed-begun old.callers new.callers state.queues worker live (small-of old state worker at small) at.indexed no added;
+      indexed = indexed-begun old.callers new.callers (all_calls state) (suc worker) live behind at.indexed free added;
       installed = at.installed;
-      live = all-back (IsLive state.grants state.journal) state.queues worker live at.live lives;
+      live = all-back (IsLive state.grants state.journal) (all_calls state) (suc worker) live at.live lives;
     } in
     (told ∙ ap (λ (t : Told). t.0) (sym event), subst (λ (t : Told). StandsAt new t.1) (sym event) left))
 

@@ -1,19 +1,22 @@
 -- The index of callers, as calls begin, move and end.
 use Rattle.std.specs.Prelude.{◌==◌, if◌then◌else◌}
 use Rattle.std.specs.List.{sum_by}
-use Rattle.std.proofs.Common.{◌≡◌, ◌<◌, ◌⊎◌, ℕ, ◌+◌, Bool, true, false, List, [], ◌∷◌, length, Option, Some, None, inl, inr, refl, ap, sym, ◌∙◌, subst, arith}
+use Rattle.std.proofs.Common.{◌≡◌, ◌<◌, ◌≤◌, ◌⊎◌, ℕ, ◌+◌, Bool, true, false, List, [], ◌∷◌, length, Option, Some, None, inl, inr, refl, ap, sym, ◌∙◌, subst, arith}
 use Rattle.std.specs.HashMap.{get}
 use Rattle.std.proofs.lemmas.Bool.{and_parts, eqb-true}
 use Rattle.std.proofs.lemmas.List.Sums.{sum_by-cons}
 use Rattle.sp_base.specs.declared.calls.Call.{Call}
 use Rattle.sp_base.specs.declared.numbers.Caller.{Caller}
 use Rattle.journal.specs.Folds.{same_caller}
+use Rattle.clients.proofs.Places.{same-self}
 use Rattle.task.specs.Turning.{Live}
-use Rattle.sim.specs.declared.callers.Callers.{Callers}
+use Rattle.clients.specs.declared.callers.Callers.{Callers}
+use Rattle.clients.specs.First.{first_of}
+use Rattle.clients.specs.Numbering.{number_of, same_numbers}
 use Rattle.sim.specs.Counting.{Indexes, PointsTo, is_of, number_in, total}
-use Rattle.sim.specs.Queueing.{Takes, number_of, same_numbers, with_back}
-use Rattle.sim.specs.State.{live_call, or_first_of}
-use Rattle.sim.proofs.Totals.{total-back, total-taken}
+use Rattle.sim.specs.Queueing.{with_back}
+use Rattle.sim.specs.State.{is_call_of, live_call, or_first_of}
+use Rattle.sim.proofs.Totals.{total-back}
 
 -- ---- Looking a caller up
 
@@ -147,19 +150,16 @@ same-points : (number : Option ℕ) (calls numbers more sums : ℕ) → more ≡
 same-points number calls numbers more sums e f points =
     subst (λ (n : ℕ). PointsTo number n sums) (sym e) (subst (λ (n : ℕ). PointsTo number calls n) (sym f) points)
 
--- a call that is taken out and put back, wherever, is indexed as it was
-pub indexed-moved : (callers : Callers) (before between : List (List Live)) («from» to : ℕ) (live next : Live)
-    → «from» < length before → to < length between → Takes before between «from» live → next.call ≡ live.call
-    → Indexes callers before → Indexes callers (with_back between to next)
-indexed-moved callers before between «from» to live next small fits takes same indexes caller =
-    let one = total-taken (is_of caller) before between «from» live small takes in
-    let back = total-back (is_of caller) between to next fits in
-    let one-number = total-taken (number_in caller) before between «from» live small takes in
-    let back-number = total-back (number_in caller) between to next fits in
+-- where one call stands for another of the same caller and number, all is indexed as it was
+pub indexed-alike : (callers : Callers) (before after : List (List Live)) (live next : Live) → next.call ≡ live.call
+    → ((weight : Live → ℕ) → total weight after + weight live ≡ total weight before + weight next)
+    → Indexes callers before → Indexes callers after
+indexed-alike callers before after live next same sums indexes caller =
+    let calls = sums (is_of caller) in
+    let numbers = sums (number_in caller) in
     let its : is_of caller next ≡ is_of caller live = ap (λ (c : Call). if same_caller c.caller caller then 1 else 0) same in
     let number : number_in caller next ≡ number_in caller live = ap (λ (c : Call). if same_caller c.caller caller then c.number.0 else 0) same in
-    same-points (number_of callers caller) _ _ _ _
-    (back ∙ omega (arith, one, its)) (back-number ∙ omega (arith, one-number, number)) (indexes caller)
+    same-points (number_of callers caller) _ _ _ _ (omega (arith, calls, its)) (omega (arith, numbers, number)) (indexes caller)
 
 -- two callers that are one by the test are one
 same-number : (a b : Caller) (callers : Callers) → same_caller a b ≡ true → number_of callers a ≡ number_of callers b
@@ -203,13 +203,13 @@ none-left None calls numbers rest points more = absurd (omega (arith, points, mo
 none-left (Some number) calls numbers rest points more = omega (arith, points.0, more)
 
 -- a call ends, and its caller has none
-pub indexed-ended : (callers after : Callers) (before between : List (List Live)) (worker : ℕ) (live : Live)
-    → worker < length before → Takes before between worker live → Indexes callers before
+pub indexed-ended : (callers after : Callers) (before between : List (List Live)) (live : Live)
+    → ((weight : Live → ℕ) → total weight before ≡ total weight between + weight live) → Indexes callers before
     → ((caller : Caller) → number_of after caller ≡ (if same_caller live.call.caller caller then None else number_of callers caller))
     → Indexes after between
-indexed-ended callers after before between worker live small takes indexes removed caller =
-    let one = total-taken (is_of caller) before between worker live small takes in
-    let number = total-taken (number_in caller) before between worker live small takes in
+indexed-ended callers after before between live gone indexes removed caller =
+    let one = gone (is_of caller) in
+    let number = gone (number_in caller) in
     elim (either (same_caller live.call.caller caller)) [
       | inl same ↦
           let its = of-caller caller live same in
@@ -224,3 +224,27 @@ indexed-ended callers after before between worker live small takes indexes remov
           subst (λ (n : Option ℕ). PointsTo n (total (is_of caller) between) (total (number_in caller) between)) (sym is)
           (same-points (number_of callers caller) _ _ _ _ (omega (arith, one, its.0)) (omega (arith, number, its.1)) (indexes caller))
     ]
+
+-- ---- A list that has no call of a caller
+
+none-in : (caller : Caller) (calls : List Live) → sum_by (is_of caller) calls ≡ 0 → first_of (is_call_of caller) calls ≡ None
+none-in caller [] none = refl
+none-in caller (live ∷ calls) none =
+    let sums : is_of caller live + sum_by (is_of caller) calls ≡ 0 = sym (sum_by-cons (is_of caller) live calls) ∙ none in
+    let apart : same_caller live.call.caller caller ≡ false = not-counted (same_caller live.call.caller caller) (omega (arith, sums)) in
+    ap (λ (b : Bool). if b then Some live else first_of (is_call_of caller) calls) apart ∙ none-in caller calls (omega (arith, sums))
+
+one-at-most : (number : Option ℕ) (calls numbers : ℕ) → PointsTo number calls numbers → calls ≤ 1
+one-at-most None calls numbers points = omega (arith, points)
+one-at-most (Some number) calls numbers points = omega (arith, points.0)
+
+-- the caller of a call that is in a queue has none that was pushed
+pub free-of : (callers : Callers) (pushed : List Live) (queues between : List (List Live)) (live : Live)
+    → Indexes callers (pushed ∷ queues) → total (is_of live.call.caller) queues ≡ total (is_of live.call.caller) between + is_of live.call.caller live
+    → first_of (is_call_of live.call.caller) pushed ≡ None
+free-of callers pushed queues between live indexes gone =
+    let caller : Caller = live.call.caller in
+    let its = (of-caller caller live (same-self caller)).0 in
+    let whole = sum_by-cons (sum_by (is_of caller)) pushed queues in
+    let few = one-at-most (number_of callers caller) (total (is_of caller) (pushed ∷ queues)) (total (number_in caller) (pushed ∷ queues)) (indexes caller) in
+    none-in caller pushed (omega (arith, its, whole, few, gone))

@@ -2,13 +2,16 @@ pub mod Queueing
 pub mod Playing
 pub mod Conflicts
 pub mod Totals
+pub mod Listing
 pub mod Indexing
 pub mod Growing
 pub mod Judging
 pub mod Reading
 pub mod Ending
 pub mod Opening
+pub mod Moving
 pub mod Turning
+pub mod AtClients
 pub mod Busy
 pub mod Eventing
 pub mod Drain

@@ -5,7 +5,7 @@ use Rattle.report.specs.declared.line.Line.{Line}
 use Rattle.report.specs.declared.line.Prefix.TheVariants.{At}
 use Rattle.sched_text.specs.declared.event.Event.{Event}
 use Rattle.sim.specs.Laws.{EventsAreJudgedOnce, ScriptsHaveOnePlay}
-use Rattle.sim.specs.Play.{Answer, Judgement, Follows, no_event, one_event, Drains, no_turn, one_turn, drain_turn, event_of, in_drain, opened}
+use Rattle.sim.specs.Play.{Answer, Judgement, Follows, no_event, one_event, Drains, no_more, one_more, drain_event, event_of, in_drain, opened}
 use Rattle.sim.specs.State.{SimState}
 
 -- what follows a state, whichever events these are
@@ -33,18 +33,18 @@ follows-alike once state events answers others after last (one_event s at event 
 
 drains-alike : (state : SimState) (lines others : List Line) (after last : SimState)
     → Drains state lines after → Drains state others last → (lines ≡ others) × (after ≡ last)
-drains-alike state lines others after last (no_turn s none) (no_turn s' none') = (refl, refl)
-drains-alike state lines others after last (no_turn s none) (one_turn s' worker rest end some drains) =
-    let both : None ≡ Some worker = sym none ∙ some in absurd cc
-drains-alike state lines others after last (one_turn s worker rest end some drains) (no_turn s' none) =
-    let both : None ≡ Some worker = sym none ∙ some in absurd cc
-drains-alike state lines others after last (one_turn s worker rest end some drains) (one_turn s' worker' rest' end' some' drains') =
-    let both : Some worker ≡ Some worker' = sym some ∙ some' in
-    let same : worker ≡ worker' = cc in
-    let moved : Drains (drain_turn state worker).1 rest' end' =
-    subst (λ (w : ℕ). Drains (drain_turn state w).1 rest' end') (sym same) drains' in
-    let alike = drains-alike (drain_turn state worker).1 rest rest' after last drains moved in
-    (ap (λ (w : ℕ). (drain_turn state w).0 ∷ rest) same ∙ ap (λ (r : List Line). (drain_turn state worker').0 ∷ r) alike.0, alike.1)
+drains-alike state lines others after last (no_more s none) (no_more s' none') = (refl, refl)
+drains-alike state lines others after last (no_more s none) (one_more s' event rest end some drains) =
+    let both : None ≡ Some event = sym none ∙ some in absurd cc
+drains-alike state lines others after last (one_more s event rest end some drains) (no_more s' none) =
+    let both : None ≡ Some event = sym none ∙ some in absurd cc
+drains-alike state lines others after last (one_more s event rest end some drains) (one_more s' event' rest' end' some' drains') =
+    let both : Some event ≡ Some event' = sym some ∙ some' in
+    let same : event ≡ event' = cc in
+    let moved : Drains (drain_event state event).1 rest' end' =
+    subst (λ (e : Event). Drains (drain_event state e).1 rest' end') (sym same) drains' in
+    let alike = drains-alike (drain_event state event).1 rest rest' after last drains moved in
+    (ap (λ (e : Event). (drain_event state e).0 ∷ rest) same ∙ ap (λ (r : List Line). (drain_event state event').0 ∷ r) alike.0, alike.1)
 
 pub one-play : EventsAreJudgedOnce → ScriptsHaveOnePlay
 one-play once script answers others journal another plays other =

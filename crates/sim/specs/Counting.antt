@@ -1,13 +1,14 @@
--- What the live calls of all workers come to, counted together.
-use Rattle.std.specs.Prelude.{◌≡◌, ℕ, ◌+◌, ◌-◌, List, Option, Some, None, if◌then◌else◌}
+-- What the live calls come to, counted together: those of each worker, and those that were pushed.
+use Rattle.std.specs.Prelude.{◌≡◌, ℕ, ◌+◌, ◌-◌, ◌*◌, List, length, Option, Some, None, if◌then◌else◌}
 use Rattle.std.specs.List.{AllByRecursion, sum_by}
 use Rattle.sp_base.specs.declared.numbers.Caller.{Caller}
 use Rattle.journal.specs.Folds.{same_caller}
+use Rattle.clients.specs.declared.callers.Callers.{Callers}
+use Rattle.clients.specs.Numbering.{number_of}
+use Rattle.clients.specs.Pushed.{Pushed}
 use Rattle.task.specs.Turning.{Live}
-use Rattle.sim.specs.declared.callers.Callers.{Callers}
-use Rattle.sim.specs.Queueing.{number_of}
 
--- a number of each live call, summed over all queues
+-- a number of each live call, summed over all lists
 abbrev pub total : (Live → ℕ) → List (List Live) → ℕ
 total weight queues = sum_by (sum_by weight) queues
 
@@ -33,7 +34,11 @@ abbrev pub Indexes : Callers → List (List Live) → Type 0
 Indexes callers queues =
     (caller : Caller) → PointsTo (number_of callers caller) (total (is_of caller) queues) (total (number_in caller) queues)
 
--- The units that a live call has left, and one more: it ends at the latest in the turn in which it has
--- spent its budget.
+-- The units that a queued call has left, and one more: it ends at the latest in the turn in which it has
+-- spent its budget. Beside them is all that it has where it is pushed.
 abbrev pub left_of : Live → ℕ
-left_of live = live.call.budget + 1 - live.spent
+left_of live = (live.call.budget + 1 - live.spent) + (live.call.budget + 1)
+
+-- What a pushed call has left: each record that its client is given takes 16 units of its budget.
+abbrev pub left_away : Pushed → ℕ
+left_away pushed = pushed.call.budget + 1 - 16 * length pushed.reads

@@ -1,12 +1,15 @@
 -- What a script does: its events in order, each by one rule, and then turns until no call is live.
-use Rattle.std.specs.Prelude.{◌≡◌, ℕ, zero, suc, ◌+◌, List, [], ◌∷◌, ◌++◌, length, map, Option, Some, None, slice_get, drop, false}
+use Rattle.std.specs.Prelude.{◌≡◌, ℕ, zero, suc, ◌+◌, Bool, true, false, List, [], ◌∷◌, ◌++◌, length, map, Option, Some, None, slice_get, drop, sum_by}
 use Rattle.sp_base.specs.declared.calls.Asked.{Asked}
 use Rattle.sp_base.specs.declared.calls.Call.{Call}
+use Rattle.sp_base.specs.declared.calls.Policy.{Policy}
+use Rattle.sp_base.specs.declared.numbers.Caller.{Caller}
 use Rattle.sp_base.specs.declared.numbers.TableId.{TableId}
 use Rattle.sp_base.specs.declared.numbers.TenantId.{TenantId}
 use Rattle.sp_base.specs.declared.outcomes.Outcome.{Outcome}
 use Rattle.sp_base.specs.declared.reads.ReadItem.{ReadItem}
 use Rattle.sp_base.specs.declared.writes.Write.{Write}
+use Rattle.sp_base.specs.Placing.{is_pushed}
 use Rattle.ext_mean.specs.declared.refusal.Refusal.{Refusal}
 use Rattle.ext_mean.specs.declared.tree.Program.{Program}
 use Rattle.ext_check.specs.Checking.{IsAccepted, IsRefused}
@@ -18,8 +21,10 @@ use Rattle.book.specs.declared.answers.Put.{Put}
 use Rattle.book.specs.declared.answers.Put.TheVariants as put
 use Rattle.journal.specs.declared.entry.Entry.{Entry}
 use Rattle.journal.specs.declared.entry.Entry.TheVariants as entry
+use Rattle.journal.specs.declared.entry.Home.{Home}
+use Rattle.journal.specs.declared.entry.Home.TheVariants.{Server, Client}
 use Rattle.journal.specs.Granted.{granted}
-use Rattle.book.specs.Verdict.{after_commit, after_install, after_put, entry_of, install_answer, item_at, put_answer, verdict}
+use Rattle.book.specs.Verdict.{after_commit, after_install, after_put, entry_at, install_answer, item_at, put_answer, verdict}
 use Rattle.report.specs.declared.line.Line.{Line}
 use Rattle.report.specs.declared.line.Line.TheVariants as line
 use Rattle.report.specs.declared.line.Prefix.{Prefix}
@@ -30,11 +35,13 @@ use Rattle.sched_text.specs.declared.event.Event.{Event}
 use Rattle.sched_text.specs.declared.event.Event.TheVariants as event
 use Rattle.sched_text.specs.declared.script.Head.{Head}
 use Rattle.sched_text.specs.declared.script.Script.{Script}
+use Rattle.rw_set.specs.Weight.{weight_of}
+use Rattle.clients.specs.First.{with_first, without_first}
 use Rattle.task.specs.declared.phase.Phase.{Phase}
 use Rattle.task.specs.declared.phase.Phase.TheVariants as phase
 use Rattle.task.specs.Extensions.{ExtValue}
 use Rattle.task.specs.Turning.{Live, begun, given, turn_of}
-use Rattle.sim.specs.State.{SimState, exts_of, queue_of, live_call, with_journal, with_queue, queued}
+use Rattle.sim.specs.State.{SimState, all_calls, exts_of, is_call_of, live_call, pushed_call, queue_of, queued, with_journal, with_pushed, with_queue}
 
 -- ---- Putting and installing
 
@@ -109,7 +116,7 @@ call_of tenant asked = record {
   args = asked.args;
 }
 
--- Where the caller has a live call, that call's number is told. Where the tenant has no such extension,
+-- Where the caller has a live call, queued or pushed, that call's number is told. Where the tenant has no such extension,
 -- the count of those that it has is told. Else the call goes to the back of the worker's queue, with no
 -- reads and nothing spent.
 abbrev pub begin_told : SimState → ℕ → Call → Option Live → Option ExtValue → Told
@@ -121,7 +128,7 @@ begin_told state worker call None (Some ext) =
 
 abbrev pub begin_event : SimState → ℕ → Call → Told
 begin_event state worker call =
-    begin_told state worker call (live_call state.queues call.caller)
+    begin_told state worker call (live_call (all_calls state) call.caller)
     (slice_get (exts_of state.installed call.caller.tenant) call.ext.0)
 
 -- how a commit is told; a verdict is never want of memory
@@ -136,27 +143,47 @@ abbrev pub commit_told : SimState → Call → Entry → Commit → Told
 commit_told state call entry given =
     (of_call call (commit_said given), with_journal state (after_commit given state.journal entry))
 
--- a call ends by the verdict on its entry
-abbrev pub end_told : SimState → Live → Outcome → List Write → Told
-end_told state live outcome writes =
-    let entry : Entry = entry_of live.call outcome writes live.reads in
+-- a call ends, in the server or at its client, by the verdict on its entry
+abbrev pub end_told : SimState → Home → Live → Outcome → List Write → Told
+end_told state home live outcome writes =
+    let entry : Entry = entry_at home live.call outcome writes live.reads in
     commit_told state live.call entry (verdict state.limit state.journal live.call entry outcome live.reads)
 
--- What becomes of a call behind its turn, when the state no longer has it. A call that may turn again
--- goes to the back of the worker's queue, and so does one that waits for a record: the record joins its
--- reads with the version that it has in the journal. A call that has ended is no longer live.
-abbrev pub turned : SimState → ℕ → Live → Phase → Told
-turned state worker live phase.Ready = (of_call live.call (said.On live.spent false), queued state worker live)
-turned state worker live (phase.Waiting table key) =
+-- how many calls the queues hold
+abbrev pub load_of : List (List Live) → ℕ
+load_of queues = sum_by length queues
+
+-- whether a call that goes on is pushed to its client, at this load
+abbrev pub goes_away : Policy → ℕ → Live → Bool
+goes_away policy load live =
+    is_pushed policy load live.spent (weight_of live.reads) live.call.push_ok
+
+-- a call that goes on joins the pushed calls at their end, or the back of its worker's queue
+abbrev pub placed : SimState → ℕ → Live → Bool → SimState
+placed state worker live true = with_pushed state (state.pushed ++ live ∷ [])
+placed state worker live false = queued state worker live
+
+-- what is said of it tells whether it was pushed
+abbrev pub goes_on : SimState → ℕ → Live → (Bool → Said) → Bool → Told
+goes_on state worker live told pushed =
+    (of_call live.call (told pushed), placed state worker live pushed)
+
+-- What becomes of a call behind its turn, when the state no longer has it; the load counts it still. A
+-- call that may turn again goes on, and so does one that waits for a record: the record joins its reads
+-- with the version that it has in the journal. A call that has ended is no longer live.
+abbrev pub turned : SimState → ℕ → ℕ → Live → Phase → Told
+turned state load worker live phase.Ready =
+    goes_on state worker live (said.On live.spent) (goes_away state.policy load live)
+turned state load worker live (phase.Waiting table key) =
     let item : ReadItem = item_at state.journal table key in
-    (of_call live.call (said.Read table key item.version false), queued state worker (given live item))
-turned state worker live (phase.Ended outcome writes) = end_told state live outcome writes
+    goes_on state worker (given live item) (said.Read table key item.version) (goes_away state.policy load (given live item))
+turned state load worker live (phase.Ended outcome writes) = end_told state Server live outcome writes
 
 -- the first call of a worker has a turn
 abbrev pub turn_first : SimState → ℕ → ℕ → List Live → Told
 turn_first state worker quantum [] = (line.Idle, state)
 turn_first state worker quantum (live ∷ queue) =
-    turned (with_queue state worker queue) worker (turn_of live quantum) (turn_of live quantum).phase
+    turned (with_queue state worker queue) (load_of state.queues) worker (turn_of live quantum) (turn_of live quantum).phase
 
 abbrev pub turn_event : SimState → ℕ → ℕ → Told
 turn_event state worker quantum = turn_first state worker quantum (queue_of state.queues worker)
@@ -170,17 +197,57 @@ steal_first state worker «from» (live ∷ queue) =
 abbrev pub steal_event : SimState → ℕ → ℕ → Told
 steal_event state worker «from» = steal_first state worker «from» (queue_of state.queues «from»)
 
+-- ---- Pushed calls
+
+-- a call at its client: it begins again from its arguments, with its whole budget, on what it has read
+abbrev pub carried : Live → Live
+carried live = turn_of live live.call.budget
+
+-- What becomes of a pushed call at its client. One that waits for a record keeps its place among the
+-- pushed calls: the record joins its reads, with the version that it has in the journal. One that has
+-- ended is no longer live. With its whole budget none may turn again.
+abbrev pub went : SimState → Caller → Live → Phase → Told
+went state caller live phase.Ready = (of_call live.call (said.On live.spent false), state)
+went state caller live (phase.Waiting table key) =
+    let item : ReadItem = item_at state.journal table key in (
+      of_call live.call (said.Read table key item.version false),
+      with_pushed state (with_first (is_call_of caller) (given live item) state.pushed),
+    )
+went state caller live (phase.Ended outcome writes) =
+    end_told (with_pushed state (without_first (is_call_of caller) state.pushed)) Client live outcome writes
+
+-- the caller's pushed call goes on at its client
+abbrev pub away_found : SimState → Caller → Option Live → Told
+away_found state caller None = (line.Idle, state)
+away_found state caller (Some live) = went state caller (carried live) (carried live).phase
+
+abbrev pub away_event : SimState → Caller → Told
+away_event state caller = away_found state caller (pushed_call state caller)
+
+-- the caller's pushed call is forgotten
+abbrev pub cut_found : SimState → Caller → Option Live → Told
+cut_found state caller None = (line.Idle, state)
+cut_found state caller (Some live) =
+    (of_call live.call said.Cut, with_pushed state (without_first (is_call_of caller) state.pushed))
+
+abbrev pub cut_event : SimState → Caller → Told
+cut_event state caller = cut_found state caller (pushed_call state caller)
+
+-- a caller of a tenant
+abbrev pub caller_of : TenantId → ℕ → Caller
+caller_of tenant number = record { tenant = tenant; number = number }
+
 -- ---- Events
 
--- what an event does; no call is ever pushed to its client, so that there is none to carry on or to cut
+-- what an event does
 abbrev pub event_of : SimState → Event → Judgement → Told
 event_of state (event.Put tenant table key value) judgement = put_event state tenant table key value
 event_of state (event.Ext tenant text) judgement = ext_event state tenant text judgement
 event_of state (event.Begin worker tenant asked) judgement = begin_event state worker (call_of tenant asked)
 event_of state (event.Turn worker quantum) judgement = turn_event state worker quantum
 event_of state (event.Steal worker «from») judgement = steal_event state worker «from»
-event_of state (event.Away tenant caller) judgement = (line.Idle, state)
-event_of state (event.Cut tenant caller) judgement = (line.Idle, state)
+event_of state (event.Away tenant caller) judgement = away_event state (caller_of tenant caller)
+event_of state (event.Cut tenant caller) judgement = cut_event state (caller_of tenant caller)
 
 -- what is judged of an event
 abbrev pub IsJudged : Event → Judgement → Type 0
@@ -228,15 +295,29 @@ abbrev pub next_worker : SimState → Option ℕ
 next_worker state =
     or_else (first_busy state.next (drop state.next state.queues)) (first_busy 0 state.queues)
 
--- a worker's turn in the drain, which then goes on with the worker behind it
-abbrev pub drain_turn : SimState → ℕ → Told
-drain_turn state worker = turn_event (record state { next = worker + 1 }) worker drain_quantum
+-- What the drain does next: where a worker has a live call, the next worker's turn. Where none has one, the
+-- call that was pushed first goes on at its client.
+abbrev pub next_of : Option ℕ → List Live → Option Event
+next_of (Some worker) pushed = Some (event.Turn worker drain_quantum)
+next_of None (live ∷ pushed) = Some (event.Away live.call.caller.tenant live.call.caller.number)
+next_of None [] = None
 
--- the drain: turns, as long as a worker has a live call
+abbrev pub next_event : SimState → Option Event
+next_event state = next_of (next_worker state) state.pushed
+
+-- behind a worker's turn the drain looks at the worker behind it
+abbrev pub looking_on : SimState → Event → SimState
+looking_on state (event.Turn worker quantum) = record state { next = worker + 1 }
+looking_on state _ = state
+
+abbrev pub drain_event : SimState → Event → Told
+drain_event state event = event_of (looking_on state event) event Nothing
+
+-- the drain: one event after another, as long as a call is live
 pub data Drains : SimState → List Line → SimState → Type 0 where
-  no_turn : (state : SimState) → next_worker state ≡ None → Drains state [] state
-  one_turn : (state : SimState) (worker : ℕ) (lines : List Line) (after : SimState) → next_worker state ≡ Some worker
-      → Drains (drain_turn state worker).1 lines after → Drains state ((drain_turn state worker).0 ∷ lines) after
+  no_more : (state : SimState) → next_event state ≡ None → Drains state [] state
+  one_more : (state : SimState) (event : Event) (lines : List Line) (after : SimState) → next_event state ≡ Some event
+      → Drains (drain_event state event).1 lines after → Drains state ((drain_event state event).0 ∷ lines) after
 
 -- so many workers, none of which has a live call
 abbrev pub idle_workers : ℕ → List (List Live)
@@ -247,10 +328,12 @@ idle_workers (suc workers) = [] ∷ idle_workers workers
 abbrev pub opened : Head → SimState
 opened head = record {
   grants = head.rights;
+  policy = head.policy;
   limit = head.limit;
   journal = [];
   installed = [];
   queues = idle_workers head.workers;
+  pushed = [];
   next = 0;
 }
 

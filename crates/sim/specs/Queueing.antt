@@ -1,9 +1,6 @@
--- What the queues and the index of callers tell of themselves.
-use Rattle.std.specs.Prelude.{◌≡◌, ◌≢◌, ◌<◌, ℕ, length, ◌==◌, ◌&&◌, Bool, List, [], ◌∷◌, ◌++◌, Option, slice_set}
-use Rattle.std.specs.HashMap.{get}
-use Rattle.sp_base.specs.declared.numbers.Caller.{Caller}
+-- What the queues tell of themselves.
+use Rattle.std.specs.Prelude.{◌≡◌, ◌≢◌, ◌<◌, ℕ, length, List, [], ◌∷◌, ◌++◌, slice_set}
 use Rattle.task.specs.Turning.{Live}
-use Rattle.sim.specs.declared.callers.Callers.{Callers}
 use Rattle.sim.specs.State.{queue_of}
 
 -- the first call of a worker is taken out
@@ -20,14 +17,6 @@ pub record TakesNothing (old new : List (List Live)) (worker : ℕ) : Type 0 whe
 -- the queues with one more call at the back of a worker's
 abbrev pub with_back : List (List Live) → ℕ → Live → List (List Live)
 with_back queues worker live = slice_set queues worker (queue_of queues worker ++ live ∷ [])
-
--- the numbers of a caller are what the index looks it up by
-abbrev pub same_numbers : ℕ × ℕ → ℕ × ℕ → Bool
-same_numbers a b = (a.0 == b.0) && (a.1 == b.1)
-
--- the number of the caller's live call, by the index
-abbrev pub number_of : Callers → Caller → Option ℕ
-number_of callers caller = get same_numbers callers.numbers (caller.tenant.0, caller.number)
 
 -- there is such a worker, and it has a call
 pub record HasCall (queues : List (List Live)) (worker : ℕ) : Type 0 where

@@ -11,7 +11,7 @@ use crate::sim::Sim;
 use crate::turns::line_of;
 use book::{Install, Put};
 use report::{Line, Said};
-use sp_base::{Asked, Blob, Call, Caller, Key, Memory, TableId, TenantId};
+use sp_base::{Asked, Blob, Call, CallNo, Caller, Key, Memory, TableId, TenantId};
 use task::{Ext, ExtFault, Task};
 
 impl Sim {
@@ -50,6 +50,7 @@ impl Sim {
         ensures workers { OnOk result (workers_of self.new ≡ workers_of self.old) }
     {
         if let Some(number) = self.callers.number(call.caller) {
+            let number = CallNo(number);
             return Ok(line_of(&call, Said::Busy { number }));
         }
         let tenant = call.caller.tenant;
@@ -60,7 +61,7 @@ impl Sim {
         let _accepted = ext.program();
         let rights = self.book.rights(tenant)?;
         let line = line_of(&call, Said::Queued);
-        self.callers.add(&call)?;
+        self.callers.add(call.caller, call.number.0)?;
         match Task::begin(self.alloc, call, ext, rights) {
             Ok(task) => self.queues.put(worker, task)?,
             Err(_) => return Err(Memory),

@@ -1,7 +1,7 @@
 //! The play of a script, event by event.
 #![tactic(auto)]
 
-mod callers;
+mod away;
 mod events;
 mod laws;
 mod queue;

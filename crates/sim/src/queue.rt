@@ -1,4 +1,4 @@
-ghost use Rattle.std.specs.Prelude.{◌≡◌, ◌↔◌, IsTrue, [], ◌∷◌, ◌++◌, OnOk, MatchOption};
+ghost use Rattle.std.specs.Prelude.{◌≡◌, ◌↔◌, IsTrue, [], ◌∷◌, ◌++◌, OnErr, OnOk, MatchOption};
 
 use sp_base::Memory;
 use std::alloc::Global;
@@ -47,9 +47,10 @@ impl Queue {
         self.tasks.pop_front()
     }
 
-    /// A call joins at the back.
+    /// A call joins at the back. Without memory nothing changes.
     pub fn push(&mut self, task: Task) -> Result<(), Memory>
-        ensures { OnOk result (self.new ≡ self.old ++ task ∷ []) }
+        ensures ok { OnOk result (self.new ≡ self.old ++ task ∷ []) }
+        ensures err { OnErr result (self.new ≡ self.old) }
     {
         self.tasks.push_back(task)?;
         Ok(())

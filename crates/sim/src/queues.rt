@@ -1,5 +1,5 @@
 ghost use Rattle.std.specs.Prelude.{◌≡◌, ◌<◌, ◌≤◌, IfOk, OnOk, IfSome, MatchOption, Some, length, drop};
-ghost use Rattle.sim.specs.Play.{idle_workers, first_busy, or_else};
+ghost use Rattle.sim.specs.Play.{idle_workers, first_busy, load_of, or_else};
 ghost use Rattle.sim.specs.Queueing.{HasCall, Takes, TakesNothing, with_back};
 
 use crate::queue::Queue;
@@ -12,12 +12,15 @@ use task::Task;
 #[derive(Drop)]
 pub struct Queues {
     queues: Vec<Queue>,
+    /// How many calls they hold.
+    load: u32,
 }
 
 impl Model for Queues {
-    ghost use Rattle.std.specs.Prelude.{List, ◌≤◌, length};
+    ghost use Rattle.std.specs.Prelude.{List, ◌≡◌, ◌≤◌, length};
     ghost use Rattle.std.specs.Coded.{codes};
     ghost use Rattle.ext_mean.specs.contracts.statement.Block as block;
+    ghost use Rattle.sim.specs.Play.{load_of};
     ghost use Rattle.task.specs.Turning.{Live};
 
     ghost Value = { List (List Live) };
@@ -26,7 +29,7 @@ impl Model for Queues {
 
     ghost view = { λ q. q.queues.items };
 
-    ghost invariant = { λ q. length q.queues.items ≤ 64 };
+    ghost invariant = { λ q. (length q.queues.items ≤ 64) × (q.load ≡ load_of q.queues.items) };
 }
 
 impl Queues {
@@ -39,7 +42,14 @@ impl Queues {
         for _worker in 0..workers {
             queues.push(Queue::new(alloc))?;
         }
-        Ok(Queues { queues })
+        Ok(Queues { queues, load: 0 })
+    }
+
+    /// How many calls the workers have.
+    pub fn load(&self) -> u32
+        ensures { result ≡ load_of self.now }
+    {
+        self.load
     }
 
     /// The first call of a worker, which leaves its queue.
@@ -48,16 +58,25 @@ impl Queues {
         ensures { MatchOption result (TakesNothing self.old self.new worker) (Takes self.old self.new worker) }
     {
         let queue = &mut self.queues[worker as usize];
-        queue.pop()
+        let Some(task) = queue.pop() else {
+            return None;
+        };
+        self.load -= 1;
+        Some(task)
     }
 
-    /// A call joins the back of a worker's queue.
+    /// A call joins the back of a worker's queue. 2^32 calls are more than memory holds.
     pub fn put(&mut self, worker: u32, task: Task) -> Result<(), Memory>
         requires { worker < length self.old }
         ensures { OnOk result (self.new ≡ with_back self.old worker task) }
     {
+        let Some(load) = self.load.checked_add(1) else {
+            return Err(Memory);
+        };
         let queue = &mut self.queues[worker as usize];
-        queue.push(task)
+        queue.push(task)?;
+        self.load = load;
+        Ok(())
     }
 
     /// The first worker that has a call, from this one on, and then from worker 0 on.

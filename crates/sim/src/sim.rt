@@ -1,18 +1,18 @@
-ghost use Rattle.std.specs.Prelude.{◌≡◌, ◌≤◌, ◌<◌, ◌↔◌, IsTrue, IfOk, OnOk, IfSome, None, true};
+ghost use Rattle.std.specs.Prelude.{◌≡◌, ◌≤◌, ◌<◌, ◌↔◌, IsTrue, IfOk, OnOk, IfSome, None, drop, true};
 ghost use Rattle.records.specs.GrantsList.{TenantsRise};
 ghost use Rattle.book.specs.Standing.{StandsFor};
-ghost use Rattle.sim.specs.Play.{next_worker, opened};
+ghost use Rattle.sim.specs.Play.{caller_of, first_busy, next_event, opened, or_else};
 ghost use Rattle.sim.specs.Standing.{DrainPlayed, FitsEvent, Played, Stands, StandsAt, units_left, workers_of};
 ghost use Rattle.sim.specs.State.{SimState};
 
-use crate::callers::Callers;
 use crate::events::call_of;
 use crate::queues::Queues;
 use book::Book;
+use clients::{Callers, PushedCalls};
 use records::Grants;
 use report::Line;
 use sched_text::{Event, Head};
-use sp_base::{MOST_ENTRIES, Memory};
+use sp_base::{Caller, MOST_ENTRIES, Memory, Policy, TenantId};
 use std::alloc::Global;
 
 /// The units of one turn of the drain.
@@ -23,7 +23,11 @@ const DRAIN_QUANTUM: u32 = 10_000;
 pub struct Sim {
     pub(crate) alloc: Global,
     pub(crate) book: Book,
+    /// When a call is pushed to its client.
+    pub(crate) policy: Policy,
     pub(crate) queues: Queues,
+    pub(crate) pushed: PushedCalls,
+    /// The number of each caller's live call.
     pub(crate) callers: Callers,
     /// The worker that the drain looks at next.
     pub(crate) next: u32,
@@ -40,6 +44,7 @@ impl Sim {
     {
         let Head {
             rights,
+            policy,
             limit,
             workers,
             ..
@@ -49,7 +54,9 @@ impl Sim {
         Ok(Sim {
             alloc,
             book: Book::new(alloc, grants, limit, true),
+            policy,
             queues,
+            pushed: PushedCalls::new(alloc),
             callers: Callers::new(alloc),
             next: 0,
         })
@@ -77,31 +84,48 @@ impl Sim {
             } => self.begin(worker, call_of(tenant, asked)),
             Event::Turn { worker, quantum } => self.turn(worker, quantum),
             Event::Steal { worker, from } => self.steal(worker, from),
-            Event::Away { .. } | Event::Cut { .. } => Ok(Line::Idle),
+            Event::Away { tenant, caller } => self.away(caller_of(tenant, caller)),
+            Event::Cut { tenant, caller } => self.cut(caller_of(tenant, caller)),
         }
     }
 
     /// Whether no call is live.
     pub fn drained(&self) -> bool
-        ensures { (state : SimState) → StandsAt self.now state → (IsTrue result ↔ (next_worker state ≡ None)) }
+        ensures { (state : SimState) → StandsAt self.now state → (IsTrue result ↔ (next_event state ≡ None)) }
     {
-        self.queues.busy(self.next).is_none()
+        self.queues.busy(self.next).is_none() && self.pushed.is_empty()
     }
 
-    /// Plays the next turn of the drain: the workers take turns in order, those without a live call
-    /// are passed over. After `Memory` the play is given up.
+    /// Plays the next event of the drain that is not idle: the workers take turns in order, those without
+    /// a live call are passed over; where no worker has one, the call that was pushed first goes on at its
+    /// client. After `Memory` the play is given up.
     pub fn next_drain(&mut self) -> Result<Option<Line>, Memory>
         requires { Stands self.old }
         ensures played { IfOk result (DrainPlayed self.old self.new) }
-        // Each turn takes of what the live calls have left, so that the drain ends.
+        // Each event takes of what the live calls have left, so that the drain ends.
         ensures falls { IfOk result (λ told. IfSome told (λ _. units_left self.new < units_left self.old)) }
         ensures workers { OnOk result (workers_of self.new ≡ workers_of self.old) }
     {
         let Some(worker) = self.queues.busy(self.next) else {
-            return Ok(None);
+            return self.next_away();
         };
         self.next = worker + 1;
         let line = self.turn(worker, DRAIN_QUANTUM)?;
+        Ok(Some(line))
+    }
+
+    /// The call that was pushed first goes on at its client, where one is pushed.
+    fn next_away(&mut self) -> Result<Option<Line>, Memory>
+        requires stands { Stands self.old }
+        requires none { None ≡ or_else (first_busy self.old.next (drop self.old.next self.old.queues)) (first_busy 0 self.old.queues) }
+        ensures played { IfOk result (DrainPlayed self.old self.new) }
+        ensures falls { IfOk result (λ told. IfSome told (λ _. units_left self.new < units_left self.old)) }
+        ensures workers { OnOk result (workers_of self.new ≡ workers_of self.old) }
+    {
+        let Some(caller) = self.pushed.front() else {
+            return Ok(None);
+        };
+        let line = self.away(caller)?;
         Ok(Some(line))
     }
 
@@ -113,4 +137,11 @@ impl Sim {
     {
         &self.book
     }
+}
+
+/// A caller of a tenant.
+fn caller_of(tenant: TenantId, number: u32) -> Caller
+    ensures { result ≡ caller_of tenant number }
+{
+    Caller { tenant, number }
 }

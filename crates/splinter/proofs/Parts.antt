@@ -11,7 +11,7 @@ use Rattle.sched_text.specs.declared.event.Event.{Event}
 use Rattle.sched_text.specs.declared.event.Event.TheVariants as event
 use Rattle.sched_text.specs.Fits.{IsEvent}
 use Rattle.sim.specs.declared.sim.Sim.{Sim}
-use Rattle.sim.specs.Play.{Answer, Drains, Follows, drain_turn, event_of, in_drain, no_event, one_event, no_turn, one_turn}
+use Rattle.sim.specs.Play.{Answer, Drains, Follows, drain_event, event_of, in_drain, no_event, no_more, one_event, one_more}
 use Rattle.sim.specs.Standing.{FitsEvent, Stands, StandsAt}
 use Rattle.sim.specs.State.{SimState}
 use Rattle.splinter.specs.Playing.{NoneTold, TellsBody, TellsDrain, TellsEvent, TellsSteps, StepTold}
@@ -66,12 +66,12 @@ module _ {Listener : Type 0} (hear : Listener → Answer → Listener) where
       let state : SimState = steps.state in
       let line : Line = added.line in
       let played = added.played in
-      let told : line ≡ (drain_turn state played.worker).0 = played.tells.told state steps.at in
-      let drains-more : (rest : List Line) (last : SimState) → Drains (drain_turn state played.worker).1 rest last → Drains state (line ∷ rest) last =
+      let told : line ≡ (drain_event state played.event).0 = played.tells.told state steps.at in
+      let drains-more : (rest : List Line) (last : SimState) → Drains (drain_event state played.event).1 rest last → Drains state (line ∷ rest) last =
       λ rest last drains. subst (λ (said : Line). Drains state (said ∷ rest) last) (sym told)
-      (one_turn state played.worker rest last (played.next state steps.at) drains) in
+      (one_more state played.event rest last (played.next state steps.at) drains) in
       record {
-        state = (drain_turn state played.worker).1;
+        state = (drain_event state played.event).1;
         at = played.tells.left state steps.at;
         lines = steps.lines ++ line ∷ [];
         goes_on = λ rest last drains. subst (λ (lines : List Line). Drains old lines last) (sym (append_assoc steps.lines (line ∷ []) rest))
@@ -82,11 +82,11 @@ module _ {Listener : Type 0} (hear : Listener → Answer → Listener) where
 
   pub step-stands : (sim next : Sim) (before after : Listener) → Stands sim → StepTold hear sim next before after → Stands next
   step-stands sim next before after stands added = record {
-    state = (drain_turn stands.state added.played.worker).1;
+    state = (drain_event stands.state added.played.event).1;
     at = added.played.tells.left stands.state stands.at;
   }
 
-  -- no worker has a live call
+  -- no call is live
   pub steps-end : (old : SimState) (sim last : Sim) (before between after : Listener) → TellsSteps hear old sim before between → NoneTold hear sim last between after
       → TellsDrain hear old last before after
   steps-end old sim last before between after steps added = record {
@@ -94,7 +94,7 @@ module _ {Listener : Type 0} (hear : Listener → Answer → Listener) where
     at = subst (λ (sim : Sim). StandsAt sim steps.state) (sym added.none.same) steps.at;
     lines = steps.lines;
     drains = subst (λ (lines : List Line). Drains old lines steps.state) (append-nil steps.lines)
-        (steps.goes_on [] steps.state (no_turn steps.state (added.none.none steps.state steps.at)));
+        (steps.goes_on [] steps.state (no_more steps.state (added.none.none steps.state steps.at)));
     heard = added.heard ∙ steps.heard;
   }
 

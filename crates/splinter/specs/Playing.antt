@@ -6,7 +6,7 @@ use Rattle.sched_text.specs.declared.event.Event.{Event}
 use Rattle.sched_text.specs.declared.script.Script.{Script}
 use Rattle.sim.specs.declared.sim.Sim.{Sim}
 use Rattle.sim.specs.Play.{Answer, Drains, Follows, in_drain}
-use Rattle.sim.specs.Standing.{NoneLeft, Played, StandsAt, TurnPlayed}
+use Rattle.sim.specs.Standing.{DrainStep, NoneLeft, Played, StandsAt}
 use Rattle.sim.specs.State.{SimState}
 use Rattle.splinter.specs.Running.{IsOnePlay}
 
@@ -25,13 +25,13 @@ module _ {Listener : Type 0} (hear : Listener → Answer → Listener) where
     pub follows : Follows old events answers state
     pub heard : after ≡ fold hear before answers
 
-  -- the next turn of the drain was played, and its answer was heard
+  -- the next event of the drain was played, and its answer was heard
   pub record StepTold (old new : Sim) (before after : Listener) : Type 0 where
     pub line : Line
-    pub played : TurnPlayed old new line
+    pub played : DrainStep old new line
     pub heard : after ≡ hear before (in_drain line)
 
-  -- no worker has a live call, and nothing was heard
+  -- no call is live, and nothing was heard
   pub record NoneTold (old new : Sim) (before after : Listener) : Type 0 where
     pub none : NoneLeft old new
     pub heard : after ≡ before
@@ -40,7 +40,7 @@ module _ {Listener : Type 0} (hear : Listener → Answer → Listener) where
   TellsStep true old new before after = StepTold old new before after
   TellsStep false old new before after = NoneTold old new before after
 
-  -- from this state some turns of the drain were played, and their answers were heard; as the drain goes on
+  -- from this state some events of the drain were played, and their answers were heard; as the drain goes on
   -- from there, it goes on from the first state
   pub record TellsSteps (old : SimState) (sim : Sim) (before after : Listener) : Type 0 where
     pub state : SimState

@@ -81,7 +81,7 @@ fn play_drain<L: Listener>(alloc: Global, listener: &mut L, sim: &mut Sim) -> Re
     Ok(())
 }
 
-/// Plays the next turn of the drain. False where none is left.
+/// Plays the next event of the drain. False where none is left.
 fn play_step<L: Listener>(alloc: Global, listener: &mut L, sim: &mut Sim) -> Result<bool, Memory>
     requires { Stands sim.old }
     ensures told { IfOk result (λ more. TellsStep L.heard more sim.old sim.new listener.old listener.new) }

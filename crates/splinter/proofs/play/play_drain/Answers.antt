@@ -1,4 +1,4 @@
--- A turn more, and the end of the drain.
+-- An event more, and the end of the drain.
 use Rattle.splinter.proofs.Parts.{step-stands, steps-end, steps-more}
 use Rattle.splinter.proofs.play.play_drain.Goals as goal
 

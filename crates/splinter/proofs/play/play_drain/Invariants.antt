@@ -1,4 +1,4 @@
--- The answers of the turns so far have been heard, and each turn leaves fewer units to the live calls.
+-- The answers of the events so far have been heard, and each event leaves fewer units to the live calls.
 use Rattle.sim.specs.State.{SimState}
 use Rattle.sim.specs.Standing.{Stands, StandsAt, units_left}
 use Rattle.splinter.specs.Playing.{TellsSteps}

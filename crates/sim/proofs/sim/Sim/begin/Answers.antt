@@ -12,12 +12,12 @@ use Rattle.sim.proofs.sim.Sim.begin.Goals as goal
 
 pub returns-in-Some-clause-told : goal.returns-in-Some-clause-told
 returns-in-Some-clause-told c =
-    busy-tells c.args.self.now c.args.worker c.args.call c.in-Some.number c.line_of.result (sym c.in-Some.is ∙ c.number.ensures) c.line_of.ensures
+    busy-tells c.args.self.now c.args.worker c.args.call c.in-Some.number c.line_of.result (sym c.number.ensures ∙ c.in-Some.is) c.line_of.ensures
 
 pub returns-in_default-2-clause-told : goal.returns-in_default-2-clause-told
 returns-in_default-2-clause-told c =
     missing-tells c.args.self.now c.args.worker c.args.call c.ext_count-count.result c.line_of-in_default-2.result
-    (sym (not-some c.number.result c.in_default.not-Some) ∙ c.number.ensures)
+    (sym c.number.ensures ∙ not-some c.number.result c.in_default.not-Some)
     (λ journal stands. sym (c.in_ok-ext.ensures journal stands) ∙ ap (option_map text_of) (not-some c.in_ok-ext.field-0 c.in_default-2.not-Some))
     c.ext_count-count.ensures c.line_of-in_default-2.ensures
 
@@ -25,9 +25,9 @@ pub returns-clause-told : goal.returns-clause-told
 returns-clause-told c =
     let ext = arc_value c.in-Some-2.ext in
     begun-tells c.args.self.now _ c.args.worker c.args.call ext c.in_ok-rights.rights c.line_of-line.result c.requires.worker
-    (sym (not-some c.number.result c.in_default.not-Some) ∙ c.number.ensures)
+    (sym c.number.ensures ∙ not-some c.number.result c.in_default.not-Some)
     (λ journal stands. sym (c.in_ok-ext.ensures journal stands) ∙ ap (option_map text_of) c.in-Some-2.is)
     (subst (λ (e : ExtValue). IsAccepted e.text e.program) c.deref.ensures c.program-accepted.ensures.accepted)
-    c.in_ok-rights.ensures c.in_ok-add.ensures refl refl
+    c.in_ok-rights.ensures c.in_ok-add.ensures.ok refl refl refl refl
     (c.in_ok-put-in-Ok.ensures ∙ ap (λ (live : Live). with_back c.args.self.now.queues c.args.worker live) c.in-Ok.ensures.ok)
     c.line_of-line.ensures

@@ -9,7 +9,7 @@ pub returns-in-Ok-clause-played : goal.returns-in-Ok-clause-played
 returns-in-Ok-clause-played c =
     let is : IsExtension c.args.text c.in-Ok.ext = subst (λ (t : List ℕ). IsExtension t c.in-Ok.ext) c.bytes.ensures c.in-Ok.ensures.accepted in
     both-ok-map c.install_line.result _ _ _ (λ line said some. install-played c.args.self.now _ c.args.tenant c.args.text c.in-Ok.ext c.install.result line
-    is some said c.install.ensures.answer c.install.ensures.stands c.install.ensures.fixed refl refl refl)
+    is some said c.install.ensures.answer c.install.ensures.stands c.install.ensures.fixed refl refl refl refl refl)
     c.install_line.ensures.said c.install_line.ensures.memory
 
 pub returns-clause-played : goal.returns-clause-played

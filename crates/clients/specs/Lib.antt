@@ -1,0 +1,4 @@
+pub mod First
+pub mod Numbering
+pub mod Pushed
+pub mod Placing

@@ -1,0 +1,10 @@
+//! The calls of a script that were pushed back to their clients, each at its client.
+#![tactic(auto)]
+
+mod callers;
+mod pushed_call;
+mod pushed_calls;
+
+pub use callers::Callers;
+pub use pushed_call::PushedCall;
+pub use pushed_calls::PushedCalls;

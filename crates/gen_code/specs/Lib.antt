@@ -1,0 +1,4 @@
+pub mod Codes
+pub mod Machine
+pub mod Sound
+pub mod Does

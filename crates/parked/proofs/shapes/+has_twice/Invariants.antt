@@ -1,0 +1,6 @@
+-- Fewer writes are left at each call.
+use Rattle.std.proofs.Common.{length}
+use Rattle.parked.proofs.shapes.+has_twice.Given as goal
+
+abbrev pub decreases-has_twice : goal.decreases-has_twice
+decreases-has_twice l = length l.writes.now

@@ -1,0 +1,284 @@
+-- Requests that are answered without the book, and those whose calls are not parked.
+use Rattle.std.specs.Prelude.{◌==◌, not, Bool, true, false, IsTrue, is_some, if◌then◌else◌}
+use Rattle.std.proofs.Common.{◌≡◌, ◌≤◌, ℕ, List, [], ◌∷◌, ◌++◌, length, Option, Some, None, refl, sym, subst, ap, ◌∙◌, arith, eq-eqb, length-append, append-nil}
+use Rattle.std.proofs.lemmas.Bool.{eqb-true}
+use Rattle.sp_base.specs.declared.numbers.TableId.{TableId}
+use Rattle.sp_base.specs.declared.numbers.TenantId.{TenantId}
+use Rattle.sp_base.specs.declared.outcomes.Outcome.{Outcome}
+use Rattle.sp_base.specs.declared.writes.Write.{Write}
+use Rattle.ext_mean.specs.declared.check_codes.BorrowCode.TheVariants as borrows
+use Rattle.ext_mean.specs.declared.check_codes.TypeCode.TheVariants as types
+use Rattle.ext_mean.specs.declared.codes.SyntaxCode.TheVariants as syntax
+use Rattle.ext_mean.specs.declared.refusal.Refusal.{Refusal}
+use Rattle.ext_mean.specs.declared.refusal.Refusal.TheVariants as refusal
+use Rattle.ext_mean.specs.Refusals.{refusal_number}
+use Rattle.ext_check.specs.Checking.{IsRefused}
+use Rattle.journal.specs.declared.entry.Entry.{Entry}
+use Rattle.book.specs.Standing.{BookValue, StandsFor}
+use Rattle.wire.specs.Answers.{IsIn}
+use Rattle.wire.specs.declared.answers.Answer.{Answer}
+use Rattle.wire.specs.declared.answers.Answer.TheVariants as answer
+use Rattle.wire.specs.declared.answers.FetchAnswer.TheVariants as fetched
+use Rattle.wire.specs.declared.answers.InstallAnswer.TheVariants as installed
+use Rattle.wire.specs.declared.items.Item.TheVariants as item
+use Rattle.wire.specs.declared.requests.Request.{Request}
+use Rattle.wire.specs.declared.requests.Request.TheVariants as request
+use Rattle.session.specs.declared.fault.Fault.{Fault}
+use Rattle.session.specs.declared.fault.Fault.TheVariants as fault
+use Rattle.session.specs.declared.plan.Ask.TheVariants as ask
+use Rattle.session.specs.declared.plan.Plan.TheVariants as plan
+use Rattle.session.specs.declared.session.Admitted.{Admitted}
+use Rattle.session.specs.declared.session.Phase.TheVariants as phase
+use Rattle.session.specs.declared.session.Session.{Session}
+use Rattle.session.specs.Standing.{AreKept, Asks, Fits, HasOwnRights, IsOpen, IsPlain, IsWithin, Planned, Refused, Stands, tenant_of, terms_over}
+use Rattle.session.specs.States.{Kept, State, after_answer, is_of, kept_of, without}
+use Rattle.session.specs.Steps as steps
+use Rattle.session.specs.Steps.{IsGone, IsOther, faulted, is_hello, is_in_turn}
+use Rattle.session.proofs.Planning.{sends, stands-nil, stands-still, stays-fixed, stops}
+use Rattle.session.proofs.LongerSteps.{rights-longer}
+
+-- ---- Tenants
+
+pub admitted-some : (own : Option Admitted) → is_some own ≡ true → (tenant : TenantId) × (tenant_of own ≡ Some tenant)
+admitted-some None is = absurd cc
+admitted-some (Some admitted) is = (admitted.tenant, refl)
+
+pub admitted-none : (own : Option Admitted) → is_some own ≡ false → tenant_of own ≡ None
+admitted-none None is = refl
+admitted-none (Some admitted) is = absurd cc
+
+-- a request that is no Hello is out of turn where no tenant was admitted
+pub out-of-turn : (old : Session) (state : State) (message : Request) → Stands old state → tenant_of old.admitted ≡ None → is_hello message ≡ false
+    → is_in_turn state.tenant message ≡ false
+out-of-turn old state message stands none is =
+    let first : state.tenant ≡ None = stands.tenant ∙ none in
+    subst (λ (tenant : Option TenantId). is_in_turn tenant message ≡ false) (sym first) is
+
+-- and a later Hello is out of turn
+pub later-hello : (old : Session) (state : State) (message : Request) (tenant : TenantId) → Stands old state → tenant_of old.admitted ≡ Some tenant
+    → is_hello message ≡ true → is_in_turn state.tenant message ≡ false
+later-hello old state message tenant stands admitted is =
+    let later : state.tenant ≡ Some tenant = stands.tenant ∙ admitted in
+    subst (λ (own : Option TenantId). is_in_turn own message ≡ false) (sym later) (ap not is)
+
+pub no-hello : (message : Request) → ((tenant : TenantId) (secret : ℕ) → message ≡ request.Hello tenant secret → ⊥) → is_hello message ≡ false
+no-hello (request.Hello tenant secret) other = absurd (other tenant secret refl)
+no-hello (request.Install text) other = refl
+no-hello (request.Batch calls) other = refl
+no-hello (request.Fetch caller number table key) other = refl
+no-hello (request.Finish caller number outcome writes) other = refl
+no-hello (request.Put table key value) other = refl
+no-hello (request.TextOf ext) other = refl
+no-hello request.Bye other = refl
+
+-- ---- Faults
+
+pub fault-in : (why : Fault) → IsWithin (faulted why)
+fault-in fault.BadFrame = record { low = omega arith; high = omega arith }
+fault-in fault.TooLong = record { low = omega arith; high = omega arith }
+fault-in fault.OutOfTurn = record { low = omega arith; high = omega arith }
+fault-in fault.WrongKey = record { low = omega arith; high = omega arith }
+fault-in fault.Memory = record { low = omega arith; high = omega arith }
+
+-- what is refused by a fault ends the session
+pub refused-by-fault : (old new : Session) (message : Request) → tenant_of old.admitted ≡ None → is_hello message ≡ false
+    → new ≡ record old { phase = phase.Ended } → Refused old new message (faulted fault.OutOfTurn)
+refused-by-fault old new message none is new_is =
+    let own : new.admitted ≡ old.admitted = ap (λ (s : Session). s.admitted) new_is in
+    let seen : new.seen ≡ old.seen = ap (λ (s : Session). s.seen) new_is in
+    record {
+      explained = λ grants limit journal fits state was. record {
+        next = state;
+        step = steps.out_of_turn message (out-of-turn old state message was none is);
+        stands = stands-still old new state was own seen;
+      };
+      ends = ap (λ (s : Session). s.phase) new_is;
+      fits = λ journal grants fits. record {
+        rights = subst (λ (admitted : Option Admitted). HasOwnRights admitted journal grants) (sym own) fits.rights;
+        seen = omega (arith, seen, fits.seen);
+      };
+      within = fault-in fault.OutOfTurn;
+      conf = ap (λ (s : Session). s.conf) new_is;
+    }
+
+-- ---- Texts that are refused
+
+number-in : (why : Refusal) → IsIn 1 16 (refusal_number why)
+number-in (refusal.Syntax syntax.Token) = record { low = omega arith; high = omega arith }
+number-in (refusal.Syntax syntax.Long) = record { low = omega arith; high = omega arith }
+number-in (refusal.Syntax syntax.Deep) = record { low = omega arith; high = omega arith }
+number-in (refusal.Syntax syntax.Many) = record { low = omega arith; high = omega arith }
+number-in (refusal.Syntax syntax.Expected) = record { low = omega arith; high = omega arith }
+number-in (refusal.Types types.NoName) = record { low = omega arith; high = omega arith }
+number-in (refusal.Types types.Order) = record { low = omega arith; high = omega arith }
+number-in (refusal.Types types.Twice) = record { low = omega arith; high = omega arith }
+number-in (refusal.Types types.Count) = record { low = omega arith; high = omega arith }
+number-in (refusal.Types types.Kind) = record { low = omega arith; high = omega arith }
+number-in (refusal.Types types.NoReturn) = record { low = omega arith; high = omega arith }
+number-in (refusal.Types types.Main) = record { low = omega arith; high = omega arith }
+number-in (refusal.Borrows borrows.Moved) = record { low = omega arith; high = omega arith }
+number-in (refusal.Borrows borrows.Frozen) = record { low = omega arith; high = omega arith }
+number-in (refusal.Borrows borrows.Outlived) = record { low = omega arith; high = omega arith }
+number-in (refusal.Borrows borrows.MoveAndBorrow) = record { low = omega arith; high = omega arith }
+
+pub refused-text : (old : Session) (tenant : TenantId) (text : List ℕ) (line : ℕ) (why : Refusal) → IsOpen old
+    → tenant_of old.admitted ≡ Some tenant → IsRefused text line why
+    → Refused old old (request.Install text) (answer.Installed (installed.Rejected line (refusal_number why)))
+refused-text old tenant text line why ready admitted is = record {
+  explained = λ grants limit journal fits state was. record {
+    next = state;
+    step = steps.refuses tenant text line why (was.tenant ∙ admitted) is;
+    stands = was;
+  };
+  ends = ready;
+  fits = λ journal grants fits. fits;
+  within = number-in why;
+  conf = refl;
+}
+
+pub refused-memory : (old : Session) (tenant : TenantId) (text : List ℕ) → IsOpen old
+    → tenant_of old.admitted ≡ Some tenant → Refused old old (request.Install text) (answer.Installed installed.Memory)
+refused-memory old tenant text ready admitted = record {
+  explained = λ grants limit journal fits state was. record {
+    next = state;
+    step = steps.installs_nothing tenant text (was.tenant ∙ admitted);
+    stands = was;
+  };
+  ends = ready;
+  fits = λ journal grants fits. fits;
+  within = tt;
+  conf = refl;
+}
+
+pub asks-plain : (session : Session) (message : Request) → ((text : List ℕ) → message ≡ request.Install text → ⊥)
+    → ((caller number : ℕ) (outcome : Outcome) (writes : List Write) → message ≡ request.Finish caller (record { 0 = number }) outcome writes → ⊥)
+    → Asks session message (ask.Plain message)
+asks-plain session (request.Hello tenant secret) no_install no_finish = record { stands_for = refl; asked = tt }
+asks-plain session (request.Install text) no_install no_finish = absurd (no_install text refl)
+asks-plain session (request.Batch calls) no_install no_finish = record { stands_for = refl; asked = tt }
+asks-plain session (request.Fetch caller number table key) no_install no_finish = record { stands_for = refl; asked = tt }
+asks-plain session (request.Finish caller number outcome writes) no_install no_finish = absurd (no_finish caller number.0 outcome writes refl)
+asks-plain session (request.Put table key value) no_install no_finish = record { stands_for = refl; asked = tt }
+asks-plain session (request.TextOf ext) no_install no_finish = record { stands_for = refl; asked = tt }
+asks-plain session request.Bye no_install no_finish = record { stands_for = refl; asked = tt }
+
+-- ---- Calls that are not parked
+
+-- where no call is parked, each that is kept is doubtful
+kept-doubtful-by : (first : Kept) (others : List Kept) (caller : ℕ) (one : Kept) (same : Bool) → IsTrue first.doubtful
+    → (kept_of others caller ≡ Some one → IsTrue one.doubtful)
+    → (if same then Some first else kept_of others caller) ≡ Some one → IsTrue one.doubtful
+kept-doubtful-by first others caller one true doubtful rest found = let is : first ≡ one = cc in subst (λ (k : Kept). IsTrue k.doubtful) is doubtful
+kept-doubtful-by first others caller one false doubtful rest found = rest found
+
+kept-doubtful : (kept : List Kept) (caller : ℕ) (one : Kept) → AreKept [] kept → kept_of kept caller ≡ Some one → IsTrue one.doubtful
+kept-doubtful [] caller one are found = absurd cc
+kept-doubtful (first ∷ others) caller one are found =
+    kept-doubtful-by first others caller one (is_of caller first) are.0 (λ rest. kept-doubtful others caller one are.1 rest) found
+
+without-kept : (kept : List Kept) (caller : ℕ) → AreKept [] kept → AreKept [] (without kept caller)
+without-kept [] caller are = refl
+without-kept (one ∷ others) caller are =
+    elim (is_of caller one) as
+    (λ (gone : Bool). AreKept [] (if gone then without others caller else one ∷ without others caller)) [
+      | true ↦ without-kept others caller are.1
+      | false ↦ (are.0, without-kept others caller are.1)
+    ]
+
+-- the call is not parked, and what is kept then
+pub record IsLost (state : State) (caller number : ℕ) : Type 0 where
+  pub left : List Kept
+  pub gone : IsGone state caller number left
+  pub kept_so : AreKept [] left
+
+lost-at : (state : State) (caller number : ℕ) (one : Kept) (same : Bool) → (one.parked.call.number.0 == number) ≡ same
+    → kept_of state.kept caller ≡ Some one → IsTrue one.doubtful → AreKept [] state.kept → IsLost state caller number
+lost-at state caller number one true is found doubtful are = record {
+  left = without state.kept caller;
+  gone = steps.doubted one (record { found = found; number_is = eqb-true one.parked.call.number.0 number is }) doubtful;
+  kept_so = without-kept state.kept caller are;
+}
+lost-at state caller number one false is found doubtful are =
+    let other : IsOther number (Some one) = λ same. (let clash : false ≡ true = sym is ∙ eq-eqb one.parked.call.number.0 number same in cc) in
+    record {
+      left = state.kept;
+      gone = steps.never (subst (λ (k : Option Kept). IsOther number k) (sym found) other);
+      kept_so = are;
+    }
+
+lost-by : (state : State) (caller number : ℕ) (found : Option Kept) → kept_of state.kept caller ≡ found → AreKept [] state.kept → IsLost state caller number
+lost-by state caller number None is are = record {
+  left = state.kept;
+  gone = steps.never (subst (λ (k : Option Kept). IsOther number k) (sym is) tt);
+  kept_so = are;
+}
+lost-by state caller number (Some one) is are =
+    lost-at state caller number one (one.parked.call.number.0 == number) refl is (kept-doubtful state.kept caller one are is) are
+
+is-lost : (state : State) (caller number : ℕ) → AreKept [] state.kept → IsLost state caller number
+is-lost state caller number are = lost-by state caller number (kept_of state.kept caller) refl are
+
+pub finish-refused : (old : Session) (tenant : TenantId) (caller number : ℕ) (outcome : Outcome) (writes : List Write) → IsOpen old
+    → tenant_of old.admitted ≡ Some tenant
+    → Refused old old (request.Finish caller (record { 0 = number }) outcome writes) (answer.Finished item.NotParked)
+finish-refused old tenant caller number outcome writes ready admitted = record {
+  explained = λ grants limit journal fits state was.
+      let lost = is-lost state caller number was.kept in
+      record {
+        next = after_answer state (answer.Finished item.NotParked) lost.left;
+        step = steps.finishes tenant caller number outcome writes item.NotParked lost.left (was.tenant ∙ admitted) (steps.not_finished lost.left lost.gone);
+        stands = record { tenant = was.tenant; seen = was.seen; kept = lost.kept_so };
+      };
+  ends = ready;
+  fits = λ journal grants fits. fits;
+  within = tt;
+  conf = refl;
+}
+
+pub fetch-planned : (old : Session) (book : BookValue) (journal : List Entry) (tenant : TenantId) (caller number : ℕ) (table : TableId) (key : List ℕ)
+    → IsOpen old → Fits old journal book.grants → tenant_of old.admitted ≡ Some tenant → StandsFor book journal
+    → Planned old old book book journal (request.Fetch caller (record { 0 = number }) table key) (plan.Send (answer.Fetched fetched.NotParked))
+fetch-planned old book journal tenant caller number table key ready fits admitted stands =
+    sends old old book book journal [] (request.Fetch caller (record { 0 = number }) table key) (answer.Fetched fetched.NotParked)
+    (stands-nil book journal stands) (stays-fixed book) refl fits refl refl (omega (arith, fits.seen, length-append journal [])) ready ready tt
+    (λ state was.
+    let lost = is-lost state caller number was.kept in
+    record {
+      next = after_answer state (answer.Fetched fetched.NotParked) lost.left;
+      step = steps.fetches tenant caller number table key fetched.NotParked lost.left (was.tenant ∙ admitted) (steps.not_fetched lost.left lost.gone);
+      stands = record { tenant = was.tenant; seen = was.seen; kept = lost.kept_so };
+    })
+
+-- a Bye in turn ends the session
+pub bye-planned : (old new : Session) (book : BookValue) (journal : List Entry) (tenant : TenantId) → Fits old journal book.grants
+    → tenant_of old.admitted ≡ Some tenant → StandsFor book journal → new ≡ record old { phase = phase.Ended }
+    → Planned old new book book journal request.Bye (plan.Stop None)
+bye-planned old new book journal tenant fits admitted stands new_is =
+    let own : new.admitted ≡ old.admitted = ap (λ (s : Session). s.admitted) new_is in
+    let seen : new.seen ≡ old.seen = ap (λ (s : Session). s.seen) new_is in
+    record {
+      later = [];
+      stands = stands-nil book journal stands;
+      adds = refl;
+      fits = record {
+        rights = subst (λ (a : Option Admitted). HasOwnRights a (journal ++ []) book.grants) (sym own)
+            (rights-longer old.admitted journal [] book.grants fits.rights);
+        seen = omega (arith, seen, fits.seen, length-append journal []);
+      };
+      conf = ap (λ (s : Session). s.conf) new_is;
+      does = record {
+        bye = refl;
+        in_turn = ap (λ (t : Option TenantId). is_in_turn t request.Bye) admitted;
+        ended = ap (λ (s : Session). s.phase) new_is;
+        still = λ state was. stands-still old new state was own seen;
+      };
+    }
+
+-- the session ends with a fault
+pub fault-planned : (old new : Session) (book : BookValue) (journal : List Entry) (message : Request) (why : Fault)
+    → StandsFor book journal → Fits old journal book.grants → new ≡ record old { phase = phase.Ended }
+    → ((state : State) → Stands old state → steps.Step (terms_over old book) (journal ++ []) state message (faulted why) state)
+    → Planned old new book book journal message (plan.Stop (Some (faulted why)))
+fault-planned old new book journal message why stands fits new_is step =
+    stops old new book journal message why stands fits (ap (λ (s : Session). s.admitted) new_is) (ap (λ (s : Session). s.conf) new_is)
+    (ap (λ (s : Session). s.seen) new_is) (ap (λ (s : Session). s.phase) new_is) (fault-in why) step

@@ -1,0 +1,10 @@
+pub mod Longer
+pub mod LongerSteps
+pub mod Planning
+pub mod Putting
+pub mod Telling
+pub mod Items
+pub mod Filling
+pub mod Asking
+pub mod Starting
+pub mod Batching
