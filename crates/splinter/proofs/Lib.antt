@@ -3,6 +3,8 @@ pub mod Parts
 pub mod Granting
 pub mod Whole
 pub mod OneText
-pub mod Lists
 pub mod Checked
 pub mod Judging
+pub mod Counting
+pub mod Drilled
+pub mod Wording

@@ -1,7 +1,7 @@
 -- The text of a whole play, over a sound book.
-use Rattle.std.specs.Prelude.{map}
-use Rattle.std.proofs.Common.{◌≡◌, ℕ, true, List, [], ◌++◌, ap, sym, refl, ◌∙◌, subst}
-use Rattle.std.proofs.lemmas.Grind.{flat_map-append}
+use Rattle.std.specs.Prelude.{fold, map}
+use Rattle.std.proofs.Common.{◌≡◌, ℕ, true, List, [], ◌++◌, ◌∷◌, ap, sym, refl, ◌∙◌, subst, append_assoc, append-nil}
+use Rattle.std.proofs.lemmas.List.Sums.{fold-append}
 use Rattle.book.proofs.Soundness.{sound-legal}
 use Rattle.book.proofs.Verdicts.{legal-killed-are-spent}
 use Rattle.journal.specs.declared.entry.Entry.{Entry}
@@ -17,7 +17,7 @@ use Rattle.sim.specs.State.{SimState}
 use Rattle.sim.proofs.Conflicts.{plays-moved}
 use Rattle.sim.proofs.Judging.{judged-once}
 use Rattle.sim.proofs.Playing.{one-play}
-use Rattle.splinter.specs.Playing.{AddsBody, AddsDrain}
+use Rattle.splinter.specs.Playing.{TellsBody, TellsDrain, TellsPlay}
 use Rattle.splinter.specs.Running.{IsPlayOf, answers_text}
 use Rattle.splinter.proofs.Granting.{drains-grants, follows-grants}
 
@@ -28,19 +28,15 @@ audited script book journal stands grants audit =
     subst (λ granted. IsSound granted book.limit true journal) grants
     (subst (λ test. IsSound book.grants book.limit test journal) audit stands.sound)
 
-pub play-of : (script : Script) (between last : Sim) (book : BookValue) (entries : List Entry) (middle end text : List ℕ)
-    → AddsBody (opened script.head) between script.events [] middle
-    → ((state : SimState) → StandsAt between state → AddsDrain state last middle end)
-    → ((state : SimState) → StandsAt last state → StandsFor book state.journal)
-    → ((state : SimState) → StandsAt last state → book.grants ≡ state.grants)
-    → ((state : SimState) → StandsAt last state → book.audit ≡ true)
-    → StandsFor book entries → text ≡ end ++ journal_text entries → IsPlayOf script text
-play-of script between last book entries middle end text body drain stands grants audit shown text_is =
+pub play-of : {Listener : Type 0} (hear : Listener → Answer → Listener) (script : Script) (between last : Sim) (before middle end : Listener)
+    → TellsBody hear (opened script.head) between script.events before middle
+    → ((state : SimState) → StandsAt between state → TellsDrain hear state last middle end)
+    → TellsPlay hear script last before end
+play-of {Listener = Listener} hear script between last before middle end body drain =
     let drained = drain body.state body.at in
     let state : SimState = drained.state in
     let granted : state.grants ≡ script.head.rights = drains-grants drained.drains ∙ follows-grants body.follows in
-    let now = audited script book state.journal (stands state drained.at) (grants state drained.at ∙ granted) (audit state drained.at) in
-    let entries_are : entries ≡ state.journal = sym shown.is ∙ (stands state drained.at).is in
+    let now = audited script last.book state.journal drained.at.book (drained.at.grants ∙ granted) drained.at.audit in
     let legal : Legal script.head.rights state.journal = sound-legal now in
     let answers : List Answer = body.answers ++ map in_drain drained.lines in
     let plays : Plays script answers state.journal = record {
@@ -53,19 +49,42 @@ play-of script between last book entries middle end text body drain stands grant
       answers_are = refl;
       journal_is = refl;
     } in
-    let written : end ≡ answers_text answers =
-    drained.written ∙ ap (λ (front : List ℕ). front ++ answers_text (map in_drain drained.lines)) body.written
-    ∙ sym (flat_map-append (λ (answer : Answer). answer_text answer.0 answer.1) body.answers (map in_drain drained.lines)) in
     record {
       answers = answers;
+      state = state;
+      at = drained.at;
+      play = record {
+        plays = plays;
+        alone = λ others another other. one-play judged-once script others answers another state.journal other plays;
+        legal = legal;
+        in_order = now.in_order;
+        within = now.within;
+        conflicts = plays-moved script answers state.journal plays;
+        killed = legal-killed-are-spent script.head.rights state.journal legal;
+      };
+      heard = drained.heard ∙ ap (λ (listener : Listener). fold hear listener (map in_drain drained.lines)) body.heard
+          ∙ sym (fold-append hear before body.answers (map in_drain drained.lines));
+    }
+
+-- a text that heard answers has their lines
+abbrev pub with_line : List ℕ → Answer → List ℕ
+with_line text answer = text ++ answer_text answer.0 answer.1
+
+lines-heard : (text : List ℕ) (answers : List Answer) → fold with_line text answers ≡ text ++ answers_text answers
+lines-heard text [] = sym (append-nil text)
+lines-heard text (answer ∷ answers) =
+    lines-heard (with_line text answer) answers ∙ append_assoc text (answer_text answer.0 answer.1) (answers_text answers)
+
+-- the answers of a play that was heard, and then the journal of its book
+pub text-of : (script : Script) (last : Sim) (book : BookValue) (entries : List Entry) (end text : List ℕ) → TellsPlay with_line script last [] end
+    → ((state : SimState) → StandsAt last state → StandsFor book state.journal) → StandsFor book entries → text ≡ end ++ journal_text entries → IsPlayOf script text
+text-of script last book entries end text told stands shown text_is =
+    let state : SimState = told.state in
+    let entries_are : entries ≡ state.journal = sym shown.is ∙ (stands state told.at).is in
+    record {
+      answers = told.answers;
       journal = state.journal;
-      plays = plays;
-      alone = λ others another other. one-play judged-once script others answers another state.journal other plays;
-      legal = legal;
-      in_order = now.in_order;
-      within = now.within;
-      conflicts = plays-moved script answers state.journal plays;
-      killed = legal-killed-are-spent script.head.rights state.journal legal;
+      play = told.play;
       text_is = text_is ∙ ap (λ (those : List Entry). end ++ journal_text those) entries_are
-          ∙ ap (λ (front : List ℕ). front ++ journal_text state.journal) written;
+          ∙ ap (λ (front : List ℕ). front ++ journal_text state.journal) (told.heard ∙ lines-heard [] told.answers);
     }

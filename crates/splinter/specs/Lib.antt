@@ -1,5 +1,6 @@
 pub mod Ending
 pub mod Running
 pub mod Playing
-pub mod Words
 pub mod Checks
+pub mod Drilling
+pub mod Naming

@@ -50,13 +50,11 @@ PlaysOnly script answers journal =
     (others : List Answer) (another : List Entry) → Plays script others another →
     (others ≡ answers) × (another ≡ journal)
 
--- The text is the answers and the journal of the script's one play, and the journal is one legal
--- history: each committed call is what its source means alone on the tables then standing, each
--- caller's calls stand once and in order, no ungranted table is read or written, every Conflict names a
--- read whose version had moved, and every Killed is a spent budget.
-pub record IsPlayOf (script : Script) (text : List ℕ) : Type 0 where
-  pub answers : List Answer
-  pub journal : List Entry
+-- The answers and the journal are those of the script's one play, and the journal is one legal history:
+-- each committed call is what its source means alone on the tables then standing, each caller's calls
+-- stand once and in order, no ungranted table is read or written, every Conflict names a read whose
+-- version had moved, and every Killed is a spent budget.
+pub record IsOnePlay (script : Script) (answers : List Answer) (journal : List Entry) : Type 0 where
   pub plays : Plays script answers journal
   pub alone : PlaysOnly script answers journal
   pub legal : Legal script.head.rights journal
@@ -64,6 +62,12 @@ pub record IsPlayOf (script : Script) (text : List ℕ) : Type 0 where
   pub within : Within script.head.rights journal
   pub conflicts : ConflictsHaveMoved answers
   pub killed : KilledAreSpent script.head.rights journal
+
+-- the text is the answers and the journal of the script's one play
+pub record IsPlayOf (script : Script) (text : List ℕ) : Type 0 where
+  pub answers : List Answer
+  pub journal : List Entry
+  pub play : IsOnePlay script answers journal
   pub text_is : text ≡ play_text answers journal
 
 -- the input spells a script, and the text is that of its play

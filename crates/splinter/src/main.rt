@@ -1,13 +1,17 @@
 //! `splinter run` plays the script on its input, and writes the answers and the journal;
-//! `splinter check` tells whether its input is an extension that may run, or why it is refused.
+//! `splinter check` tells whether its input is an extension that may run, or why it is refused;
+//! `splinter drill COUNT SEED` plays a script of its own making, and tells what became of its calls.
 #![tactic(auto)]
 
 mod check;
+mod counts;
+mod drill;
 mod play;
 mod run;
 mod status;
 #[cfg(test)]
 mod tests;
+mod text;
 mod top;
 mod verdict;
 

@@ -5,8 +5,8 @@ ghost use Rattle.sp_outside.specs.Reading.{TookUpTo};
 ghost use Rattle.splinter.specs.Ending.{Causes, WritesNothing};
 ghost use Rattle.splinter.specs.Running.{IsRunVerdict, JudgesScript, Runs, bad_line, most_script};
 
-use crate::play::text_of_play;
 use crate::status::Status;
+use crate::text::text_of_play;
 use crate::verdict::{Verdict, write};
 use report::Text;
 use sched_text::{LineCode, ScriptFault, read_script};

@@ -1,7 +1,7 @@
 /// How a command ended. The number is the process's exit status.
 #[derive(Clone, Copy, Debug, PartialEq, Eq)]
 pub enum Status {
-    /// The input was read to its end, and all was written.
+    /// The input, where the command reads one, was read to its end, and all was written.
     Ok = 0,
     /// The extension is refused, which one line tells.
     Refused = 1,

@@ -228,7 +228,7 @@ fn the_hundred_smallest_scripts_play_as_worked_out(rt: HostRuntime) -> Result<()
 #[test]
 fn other_words_are_no_command(rt: HostRuntime) -> Result<(), Fail> {
     let alloc = rt.alloc();
-    for line in ["run now", "--help", "", "running"] {
+    for line in ["run now", "drill 01 0", "drill 1", "--help", "help", "", "running"] {
         let mut words = Vec::new(alloc);
         for word in line.split_whitespace() {
             words.push(String::from_str(alloc, word)?)?;
@@ -239,6 +239,44 @@ fn other_words_are_no_command(rt: HostRuntime) -> Result<(), Fail> {
         assert_eq!(rt; status, Status::Usage);
         assert_eq!(rt; source.calls, 0);
         assert_eq!(rt; sink.calls, 0);
+    }
+    Ok(())
+}
+
+/// Runs a drill, and gives what it writes.
+fn drilled(rt: &impl Abort, alloc: Global, count: &str, seed: &str) -> Result<Vec<u8>, Fail> {
+    let words = vec![
+        in alloc;
+        String::from_str(alloc, "drill")?,
+        String::from_str(alloc, count)?,
+        String::from_str(alloc, seed)?
+    ]?;
+    let mut source = source_of(alloc, b"", Vec::new(alloc))?;
+    let mut sink = MemSink::of(alloc, 200, Vec::new(alloc))?;
+    let ended = splinter(&(), alloc, words.as_slice(), &mut source, &mut sink);
+    assert_eq!(rt; ended, Status::Ok);
+    assert_eq!(rt; source.calls, 0);
+    Ok(sink.held)
+}
+
+/// Each case is a drill with its five numbers: those of no call, of one and of two, whose calls meet no other;
+/// and, as a model of the queues apart from this program gives them, a hundred calls under load and the
+/// largest drill, which tells the same twice.
+const DRILLS: [(&str, &str, &str); 6] = [
+    ("0", "0", "calls 0\ncommitted 0\nconflict 0\npushed 0\njournal 1\n"),
+    ("1", "0", "calls 1\ncommitted 1\nconflict 0\npushed 0\njournal 2\n"),
+    ("2", "0", "calls 2\ncommitted 2\nconflict 0\npushed 0\njournal 3\n"),
+    ("100", "7", "calls 100\ncommitted 63\nconflict 37\npushed 47\njournal 64\n"),
+    ("10000", "1", "calls 10000\ncommitted 502\nconflict 9498\npushed 4997\njournal 503\n"),
+    ("10000", "1", "calls 10000\ncommitted 502\nconflict 9498\npushed 4997\njournal 503\n"),
+];
+
+#[test]
+fn a_drill_writes_its_summary(rt: HostRuntime) -> Result<(), Fail> {
+    let alloc = rt.alloc();
+    for (count, seed, text) in DRILLS {
+        let written = drilled(&rt, alloc, count, seed)?;
+        assert_eq!(rt; written.as_slice(), text.as_bytes());
     }
     Ok(())
 }

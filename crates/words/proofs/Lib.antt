@@ -1,0 +1,4 @@
+pub mod Refusing
+pub mod Taking
+pub mod Naming
+pub mod Parsed
