@@ -16,7 +16,11 @@ impl Listener for Counts {
     ghost heard = { λ counts answer. counted counts answer.1 };
 
     fn hear(&mut self, _alloc: Global, _prefix: Prefix, line: &Line) -> Result<(), Memory> {
-        let (committed, conflict, pushed) = (tells_commit(line), tells_conflict(line), tells_push(line));
+        let (committed, conflict, pushed) = (
+            tells_commit(line),
+            tells_conflict(line),
+            tells_push(line),
+        );
         self.committed = one_more_if(self.committed, committed)?;
         self.conflict = one_more_if(self.conflict, conflict)?;
         self.pushed = one_more_if(self.pushed, pushed)?;

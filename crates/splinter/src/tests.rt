@@ -228,7 +228,15 @@ fn the_hundred_smallest_scripts_play_as_worked_out(rt: HostRuntime) -> Result<()
 #[test]
 fn other_words_are_no_command(rt: HostRuntime) -> Result<(), Fail> {
     let alloc = rt.alloc();
-    for line in ["run now", "drill 01 0", "drill 1", "--help", "help", "", "running"] {
+    for line in [
+        "run now",
+        "drill 01 0",
+        "drill 1",
+        "--help",
+        "help",
+        "",
+        "running",
+    ] {
         let mut words = Vec::new(alloc);
         for word in line.split_whitespace() {
             words.push(String::from_str(alloc, word)?)?;
@@ -245,11 +253,10 @@ fn other_words_are_no_command(rt: HostRuntime) -> Result<(), Fail> {
 
 /// Runs a drill, and gives what it writes.
 fn drilled(rt: &impl Abort, alloc: Global, count: &str, seed: &str) -> Result<Vec<u8>, Fail> {
-    let words = vec![
-        in alloc;
+    let words = vec![in alloc;
         String::from_str(alloc, "drill")?,
         String::from_str(alloc, count)?,
-        String::from_str(alloc, seed)?
+        String::from_str(alloc, seed)?,
     ]?;
     let mut source = source_of(alloc, b"", Vec::new(alloc))?;
     let mut sink = MemSink::of(alloc, 200, Vec::new(alloc))?;
@@ -263,12 +270,36 @@ fn drilled(rt: &impl Abort, alloc: Global, count: &str, seed: &str) -> Result<Ve
 /// and, as a model of the queues apart from this program gives them, a hundred calls under load and the
 /// largest drill, which tells the same twice.
 const DRILLS: [(&str, &str, &str); 6] = [
-    ("0", "0", "calls 0\ncommitted 0\nconflict 0\npushed 0\njournal 1\n"),
-    ("1", "0", "calls 1\ncommitted 1\nconflict 0\npushed 0\njournal 2\n"),
-    ("2", "0", "calls 2\ncommitted 2\nconflict 0\npushed 0\njournal 3\n"),
-    ("100", "7", "calls 100\ncommitted 63\nconflict 37\npushed 47\njournal 64\n"),
-    ("10000", "1", "calls 10000\ncommitted 502\nconflict 9498\npushed 4997\njournal 503\n"),
-    ("10000", "1", "calls 10000\ncommitted 502\nconflict 9498\npushed 4997\njournal 503\n"),
+    (
+        "0",
+        "0",
+        "calls 0\ncommitted 0\nconflict 0\npushed 0\njournal 1\n",
+    ),
+    (
+        "1",
+        "0",
+        "calls 1\ncommitted 1\nconflict 0\npushed 0\njournal 2\n",
+    ),
+    (
+        "2",
+        "0",
+        "calls 2\ncommitted 2\nconflict 0\npushed 0\njournal 3\n",
+    ),
+    (
+        "100",
+        "7",
+        "calls 100\ncommitted 63\nconflict 37\npushed 47\njournal 64\n",
+    ),
+    (
+        "10000",
+        "1",
+        "calls 10000\ncommitted 502\nconflict 9498\npushed 4997\njournal 503\n",
+    ),
+    (
+        "10000",
+        "1",
+        "calls 10000\ncommitted 502\nconflict 9498\npushed 4997\njournal 503\n",
+    ),
 ];
 
 #[test]
