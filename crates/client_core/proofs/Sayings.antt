@@ -109,20 +109,22 @@ finishing-sayable : (known : Known) (carried : Carried) (ext : ExtValue) (outcom
 finishing-sayable known carried ext outcome writes given caller number fits each ends = record {
   told = λ same. (cc);
   fits = (caller, (number, (fits, each)));
-  meant = record { each = λ of at sent changes same.
-      let one : outcome ≡ sent = (cc) in
-      let other : writes ≡ changes = (cc) in
-      record {
-        carried = carried;
-        carries = refl;
-        caller_is = (cc);
-        number_is = (cc);
-        ext = ext;
-        given = given;
-        ends =
-            subst (λ (list : List Write). EndsWith (mean ext.program carried.call.args carried.call.budget (part carried.reads known.rights)) sent list) other
-            (subst (λ (o : Outcome). EndsWith (mean ext.program carried.call.args carried.call.budget (part carried.reads known.rights)) o writes) one ends);
-      } };
+  meant = record {
+    each = λ of at sent changes same.
+        let one : outcome ≡ sent = (cc) in
+        let other : writes ≡ changes = (cc) in
+        record {
+          carried = carried;
+          carries = refl;
+          caller_is = (cc);
+          number_is = (cc);
+          ext = ext;
+          given = given;
+          ends =
+              subst (λ (list : List Write). EndsWith (mean ext.program carried.call.args carried.call.budget (part carried.reads known.rights)) sent list) other
+              (subst (λ (o : Outcome). EndsWith (mean ext.program carried.call.args carried.call.budget (part carried.reads known.rights)) o writes) one ends);
+        };
+  };
   rests = λ answers same. absurd (cc);
 }
 
@@ -138,8 +140,8 @@ ended-sayable known carried ext outcome writes given caller number code ends =
     let may = only-writable ext.program carried.call.args carried.call.budget (part carried.reads known.rights) in
     let few : length writes ≤ 255 = omega (arith, small.few, ap length ends.leaves) in
     let each : AllByRecursion FitsWrite writes =
-        subst (λ (list : List Write). AllByRecursion FitsWrite list) ends.leaves
-        (each-fits known.rights _ may small.keys small.values) in
+    subst (λ (list : List Write). AllByRecursion FitsWrite list) ends.leaves
+    (each-fits known.rights _ may small.keys small.values) in
     finishing-sayable known carried ext outcome writes given caller number
     (outcome-fits _ outcome small ends.answers code) (few, each) ends
 
@@ -158,7 +160,7 @@ pub run-sayable : (known : Known) (carried : Carried) (ext : ExtValue) (run : Ru
     → IsSayable known (after_run carried run)
 run-sayable known carried ext (run.Wants table key used) given caller number code is =
     let due = only-readable ext.program carried.call.args carried.call.budget (part carried.reads known.rights)
-        (record { table = table.0; key = key }) (ap wanted_by is) in
+    (record { table = table.0; key = key }) (ap wanted_by is) in
     fetching-sayable known carried table key caller number (readable-small known.rights table.0 due.0) due.1
 run-sayable known carried ext (run.Done reply writes used) given caller number code is =
     ended-sayable known carried ext (outcomes.Done reply) writes given caller number

@@ -104,7 +104,7 @@ carries known answered [] = (Answered answered, Idle)
 carries known answered (told ∷ later) =
     option_map_or
     (λ (reads : List ReadItem). starts known
-        (record { answered = answered; call = told.0; reads = reads; later = later }))
+    (record { answered = answered; call = told.0; reads = reads; later = later }))
     (pushed_reads told.1)
     (carries known (answered ++ (record { item = told.1; away = false }) ∷ []) later)
 

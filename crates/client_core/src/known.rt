@@ -102,7 +102,14 @@ impl Known {
         let call = &carried.call;
         let args = call.args.bytes();
         let reads = carried.reads.as_slice();
-        match eval(self.alloc, ext.program(), args, call.budget, &self.rights, reads)? {
+        match eval(
+            self.alloc,
+            ext.program(),
+            args,
+            call.budget,
+            &self.rights,
+            reads,
+        )? {
             Run::Wants { table, key, .. } => fetching(self.alloc, carried, table, key),
             Run::Done { reply, writes, .. } => Ok(finishing(carried, Outcome::Done(reply), writes)),
             Run::Trapped { trap, .. } => {
