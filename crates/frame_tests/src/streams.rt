@@ -104,10 +104,10 @@ fn the_longest_frame_comes_whole_in_one_piece_and_in_many(rt: HostRuntime) -> Re
     let frame = longest_frame(rt.alloc())?;
     for size in [8_388_612usize, 65_536, 1_000_003] {
         let mut framer = Framer::new(rt.alloc());
-        let mut found = 0;
+        let mut found = 0u32;
         for piece in frame.as_slice().chunks(size) {
             for body in &framer.feed(piece)? {
-                found += 1;
+                found = found.wrapping_add(1);
                 assert_eq!(rt; body.len(), 8_388_608);
                 assert_eq!(rt; body.bytes().last(), Some(&9));
             }
