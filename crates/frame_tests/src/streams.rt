@@ -87,3 +87,32 @@ fn a_frame_of_a_million_bytes_comes_whole_a_byte_at_a_time(rt: HostRuntime) -> R
     }
     Ok(())
 }
+
+/// The longest frame, with its length in front: 8,388,608 bytes, of which the last alone is 9.
+fn longest_frame(alloc: Global) -> Result<Vec<u8>, Fail> {
+    let mut frame = Vec::with_capacity(alloc, 8_388_612)?;
+    frame.extend_from_slice(&[0, 0x80, 0, 0])?;
+    for _ in 1..8_388_608 {
+        frame.push(7)?;
+    }
+    frame.push(9)?;
+    Ok(frame)
+}
+
+#[test]
+fn the_longest_frame_comes_whole_in_one_piece_and_in_many(rt: HostRuntime) -> Result<(), Fail> {
+    let frame = longest_frame(rt.alloc())?;
+    for size in [8_388_612usize, 65_536, 1_000_003] {
+        let mut framer = Framer::new(rt.alloc());
+        let mut found = 0;
+        for piece in frame.as_slice().chunks(size) {
+            for body in &framer.feed(piece)? {
+                found += 1;
+                assert_eq!(rt; body.len(), 8_388_608);
+                assert_eq!(rt; body.bytes().last(), Some(&9));
+            }
+        }
+        assert_eq!(rt; (found, framer.pending()), (1, 0));
+    }
+    Ok(())
+}

@@ -319,3 +319,25 @@ fn programs_are_judged_by_the_rules(rt: HostRuntime) -> Result<(), Fail> {
     judge(&rt, alloc, IN_MAIN, TYPES)?;
     judge(&rt, alloc, BEHIND_BUFFER, OWNERSHIP)
 }
+
+/// A program of 4,004 items: of its 4,000 lines behind the first, `last` is the last one.
+fn long_text(alloc: Global, last: &str) -> Result<String, Fail> {
+    let mut text = String::from_str(alloc, "fn main()->int{let x:int=0;\n")?;
+    for _ in 1..4_000 {
+        text.push_str("x=1;")?;
+    }
+    text.push_str("\n")?;
+    text.push_str(last)?;
+    text.push_str("return x;}\n")?;
+    Ok(text)
+}
+
+#[test]
+fn a_program_of_thousands_of_items_is_judged(rt: HostRuntime) -> Result<(), Fail> {
+    let alloc = rt.alloc();
+    for (last, wanted) in [("x=1;", "ok"), ("y=1;", "3 NoName"), ("x=true;", "3 Kind")] {
+        let text = long_text(alloc, last)?;
+        assert_eq!(rt; answer(alloc, text.as_str())?.as_str(), wanted);
+    }
+    Ok(())
+}

@@ -9,4 +9,6 @@ mod codes;
 #[cfg(test)]
 mod edges;
 #[cfg(test)]
+mod pairs;
+#[cfg(test)]
 mod whole;

@@ -1,4 +1,5 @@
 mod rows;
+mod small;
 
 use crate::status::Status;
 use crate::top::splinter;
@@ -191,6 +192,39 @@ fn commands_write_what_is_told(rt: HostRuntime) -> Result<(), Fail> {
 #[test]
 fn scripts_play_as_the_rules_say(rt: HostRuntime) -> Result<(), Fail> {
     expect_all(&rt, rt.alloc(), rows::ROWS)
+}
+
+/// Adds lines that are written with `|` for a newline.
+fn push_lines(text: &mut String, lines: &str) -> Result<(), Fail> {
+    for line in lines.split_terminator('|') {
+        text.push_str(line)?;
+        text.push('\n')?;
+    }
+    Ok(())
+}
+
+#[test]
+fn the_hundred_smallest_scripts_play_as_worked_out(rt: HostRuntime) -> Result<(), Fail> {
+    let alloc = rt.alloc();
+    for case in small::CASES.split('$').skip(1) {
+        let mut parts = case.lines();
+        let (Some(events), Some(answers), Some(entries)) = (
+            parts.next(),
+            parts.next(),
+            parts.next(),
+        ) else {
+            return Err(Fail::new("no case"));
+        };
+        let mut script = format!(in alloc; "{}{}", small::HEAD, small::COUNTER)?;
+        push_lines(&mut script, events)?;
+        let mut text = String::from_str(alloc, "5 installed 0 ext 0\n")?;
+        push_lines(&mut text, answers)?;
+        text.push_str("journal 0 install 1 0 1\n")?;
+        text.push_str(small::COUNTER)?;
+        push_lines(&mut text, entries)?;
+        expect(&rt, alloc, "run", script.as_bytes(), 0, text.as_str())?;
+    }
+    Ok(())
 }
 
 #[test]

@@ -19,7 +19,7 @@ const CLOSED: TableId = TableId(7);
 const TEXT: &str = "fn main() -> int {\nreturn 0;\n}\n";
 
 fn book_of(alloc: Global, limit: u64) -> Result<Book, Fail>
-    requires { limit ≤ 10 }
+    requires { limit ≤ 1048576 }
 {
     let rights = vec![in alloc; (OPEN, Level::Write), (SEEN, Level::Read)]?;
     let grants = vec![in alloc; (TENANT, Rights::of(rights))]?;
@@ -106,5 +106,49 @@ fn extensions_are_numbered_by_tenant_and_shared(rt: HostRuntime) -> Result<(), F
         return Err(Fail::new("no extension"));
     };
     assert!(rt; matches!(book.install(TENANT, ext), Install::Full { at: 3 }));
+    Ok(())
+}
+
+/// 65,328 records of 4,109 bytes, 13 of them not of the value, leave 2,704 of the journal's 268,435,456.
+#[test]
+fn a_journal_is_full_by_bytes_at_its_edge(rt: HostRuntime) -> Result<(), Fail> {
+    let alloc = rt.alloc();
+    let mut book = book_of(alloc, 1_048_576)?;
+    let value = [7u8; 4096];
+    for n in 0..65_328u64 {
+        assert!(rt; matches!(put(alloc, &mut book, OPEN, &value)?, Put::Done(at) if at == n));
+    }
+    assert!(rt;
+        matches!(
+            put(alloc, &mut book, OPEN, &value[..2_692])?,
+            Put::Full { at: 65_328 }
+        )
+    );
+    assert!(rt;
+        matches!(
+            put(alloc, &mut book, OPEN, &value[..2_691])?,
+            Put::Done(65_328)
+        )
+    );
+    assert!(rt; matches!(put(alloc, &mut book, OPEN, b"")?, Put::Full { at: 65_329 }));
+    assert_eq!(rt; book.journal().size(), 268_435_456);
+    assert_eq!(rt; found(alloc, &book, OPEN)?.version, 65_329);
+    Ok(())
+}
+
+#[test]
+fn a_journal_takes_the_most_entries(rt: HostRuntime) -> Result<(), Fail> {
+    let alloc = rt.alloc();
+    let mut book = book_of(alloc, 1_048_576)?;
+    for n in 0..1_048_576u64 {
+        assert!(rt; matches!(put(alloc, &mut book, OPEN, b"")?, Put::Done(at) if at == n));
+    }
+    assert!(rt;
+        matches!(
+            put(alloc, &mut book, OPEN, b"")?,
+            Put::Full { at: 1_048_576 }
+        )
+    );
+    assert_eq!(rt; book.len(), 1_048_576);
     Ok(())
 }

@@ -1,6 +1,106 @@
-use journal::{Entry, Journal, entry_bytes, entry_size};
-use sp_base::{Blob, Key, TableId, TenantId};
+use journal::{Entry, Home, Journal, entry_bytes, entry_size};
+use sp_base::{
+    Blob, Call, CallNo, Caller, Change, ExtNo, Key, Outcome, ReadItem, Reads, Reply, TableId,
+    TenantId, Trap, Write, Writes,
+};
+use std::alloc::Global;
 use std::test::Fail;
+
+/// Call 3 of caller 2 of tenant 1, to extension 4, with a budget of 100.
+fn call(alloc: Global) -> Result<Call, Fail> {
+    Ok(Call {
+        caller: Caller {
+            tenant: TenantId(1),
+            number: 2,
+        },
+        number: CallNo(3),
+        ext: ExtNo(4),
+        budget: 100,
+        push_ok: true,
+        args: Blob::of(alloc, b"a")?,
+    })
+}
+
+/// A put of table 6 and a deletion of table 7.
+fn two_writes(alloc: Global) -> Result<Writes, Fail> {
+    let put = Write {
+        table: TableId(6),
+        key: Key::of(alloc, b"k")?,
+        change: Change::Put(Blob::of(alloc, b"v")?),
+    };
+    let del = Write {
+        table: TableId(7),
+        key: Key::of(alloc, b"dd")?,
+        change: Change::Del,
+    };
+    Ok(Writes::from_vec(vec![in alloc; put, del]?))
+}
+
+/// One read, with a value and a moment that its entry does not keep.
+fn one_read(alloc: Global) -> Result<Reads, Fail> {
+    let read = ReadItem {
+        table: TableId(5),
+        key: Key::of(alloc, b"k")?,
+        version: 258,
+        read_at: 9,
+        value: Some(Blob::of(alloc, b"seen")?),
+    };
+    Ok(Reads::from_vec(vec![in alloc; read]?))
+}
+
+#[test]
+fn a_call_has_its_bytes(rt: HostRuntime) -> Result<(), Fail> {
+    let alloc = rt.alloc();
+    let reply = Reply {
+        code: 5,
+        bytes: Blob::of(alloc, b"hi")?,
+    };
+    let entry = Entry::Invoke {
+        call: call(alloc)?,
+        outcome: Outcome::Done(reply),
+        writes: two_writes(alloc)?,
+        reads: one_read(alloc)?,
+        home: Home::Client,
+    };
+    let bytes = [
+        // The call: tenant, caller, number, extension, budget, push, arguments.
+        1u8, 0, 0, 0, 1, 0, 0, 0, 2, 0, 0, 0, 0, 0, 0, 0, 3, 0, 0, 0, 4, 0, 0, 0, 100, 1, 0, 1, 97,
+        // Done, with a code and bytes.
+        0, 0, 0, 0, 0, 0, 0, 0, 5, 0, 2, 104, 105,
+        // Two writes.
+        2, 0, 0, 0, 6, 1, 107, 1, 0, 1, 118, 0, 0, 0, 7, 2, 100, 100, 0,
+        // One read, and the home.
+        0, 1, 0, 0, 0, 5, 1, 107, 0, 0, 0, 0, 0, 0, 1, 2, 1,
+    ];
+    assert_eq!(rt; entry_bytes(alloc, &entry)?.bytes(), bytes.as_slice());
+    assert_eq!(rt; entry_size(&entry), 78);
+    Ok(())
+}
+
+#[test]
+fn calls_that_did_nothing_have_their_bytes(rt: HostRuntime) -> Result<(), Fail> {
+    let alloc = rt.alloc();
+    let cases: [(Outcome, &[u8]); 2] = [
+        (Outcome::Trapped(Trap::Denied), &[1, 4]),
+        (Outcome::Killed, &[2]),
+    ];
+    for (outcome, told) in cases {
+        let entry = Entry::Invoke {
+            call: call(alloc)?,
+            outcome,
+            writes: Writes::new(alloc),
+            reads: Reads::new(alloc),
+            home: Home::Server,
+        };
+        let bytes = entry_bytes(alloc, &entry)?;
+        assert_eq!(rt;
+            &bytes.bytes()[29..],
+            [told, &[0, 0, 0, 0]].concat(alloc)?.as_slice()
+        );
+        assert_eq!(rt; entry_size(&entry) as usize, bytes.len());
+    }
+    Ok(())
+}
 
 #[test]
 fn puts_and_installations_have_their_bytes(rt: HostRuntime) -> Result<(), Fail> {

@@ -1,6 +1,7 @@
 use super::*;
 
-/// Bodies that are no request, and the number of their first bytes that begin one.
+/// Bodies that are no request, and the number of their first bytes that begin one. Thousands of bytes behind a
+/// message are no want of memory.
 const REQUESTS: &str = "\
 00 => 0
 09 00 => 0
@@ -27,7 +28,9 @@ const REQUESTS: &str = "\
 06 00000005 00 6b => 5
 06 00000005 41 6b => 5
 06 00000005 01 6b 1001 76 => 8
-06 00000005 01 6b 1100 => 7";
+06 00000005 01 6b 1100 => 7
+01 00000001 0000000000000007 00*9000 => 13
+08 00*20000 => 1";
 
 /// Bodies that are no answer. The tables of a Welcome here are 5 and 5, 256 and less, and one that
 /// leaves no room for another.
@@ -76,7 +79,8 @@ const ANSWERS: &str = "\
 47 02 => 1
 47 04 => 1
 48 00 => 1
-48 06 => 1";
+48 06 => 1
+48 01 00*20000 => 2";
 
 #[test]
 fn a_body_is_bad_where_no_message_goes_on(rt: HostRuntime) -> Result<(), Fail> {

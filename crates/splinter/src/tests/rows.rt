@@ -235,6 +235,47 @@ journal 1 put 1 6 x62 x0100000000000000
 journal 2 invoke 1 1 1 0 60 x server killed reads 2 6 x61 0 6 x62 2 writes 0
 $run 0
 tenant 1 7
+table 6 1 write
+ext 1 1
+fn main() -> int { let a: int = 0; let c: int = 0; get(6, \"a\") { some s => { a = u64(s, 0); } none => { } } get(6, \"b\") { some s => { c = u64(s, 0); } none => { } } while a != c { } return 0; }
+begin 0 1 1 1 0 60 stay x
+turn 0 60
+turn 0 60
+put 1 6 x62 x01
+put 1 6 x61 x02
+>>
+3 installed 0 ext 0
+5 1.1.1 queued
+6 1.1.1 read 6 x61 0
+7 1.1.1 read 6 x62 0
+8 put 1
+9 put 2
+drain 1.1.1 conflict 6 x61 0 3
+journal 0 install 1 0 1
+fn main() -> int { let a: int = 0; let c: int = 0; get(6, \"a\") { some s => { a = u64(s, 0); } none => { } } get(6, \"b\") { some s => { c = u64(s, 0); } none => { } } while a != c { } return 0; }
+journal 1 put 1 6 x62 x01
+journal 2 put 1 6 x61 x02
+$run 0
+tenant 1 7
+table 6 1 write
+ext 1 1
+fn main() -> int { let a: int = 0; let c: int = 0; get(6, \"a\") { some s => { a = u64(s, 0); } none => { } } get(6, \"b\") { some s => { c = u64(s, 0); } none => { } } while a != c { } return 0; }
+begin 0 1 1 1 0 60 stay x
+turn 0 60
+turn 0 60
+put 1 6 x62 x01
+>>
+3 installed 0 ext 0
+5 1.1.1 queued
+6 1.1.1 read 6 x61 0
+7 1.1.1 read 6 x62 0
+8 put 1
+drain 1.1.1 conflict 6 x62 0 2
+journal 0 install 1 0 1
+fn main() -> int { let a: int = 0; let c: int = 0; get(6, \"a\") { some s => { a = u64(s, 0); } none => { } } get(6, \"b\") { some s => { c = u64(s, 0); } none => { } } while a != c { } return 0; }
+journal 1 put 1 6 x62 x01
+$run 0
+tenant 1 7
 table 5 1 write
 put 1 5 x6b x7631
 ext 1 1

@@ -1,0 +1,15 @@
+//! Tests of the code of extensions: each form with its instructions as they follow from the rules, sound
+//! and unsound code, and the largest programs. They stand above the crates that they test, so that no
+//! crate is proved twice.
+#![tactic(auto)]
+
+#[cfg(test)]
+mod codes;
+#[cfg(test)]
+mod examples;
+#[cfg(test)]
+mod largest;
+#[cfg(test)]
+mod shown;
+#[cfg(test)]
+mod sound;
