@@ -45,7 +45,7 @@ answered-then terms journal later more first bodies answers last answered =
     subst (λ (j : List Entry). Answered terms j first bodies answers last) (append_assoc journal later more)
     (answered-longer terms (journal ++ later) more first bodies answers last answered)
 
-said-more : (before now afterwards : List ℕ) (answers : List Answer) (given : Answer) → now ≡ before ++ frames_of answers
+pub said-more : (before now afterwards : List ℕ) (answers : List Answer) (given : Answer) → now ≡ before ++ frames_of answers
     → afterwards ≡ now ++ frame (spelling.answer given) → afterwards ≡ before ++ frames_of (answers ++ given ∷ [])
 said-more before now afterwards answers given is more =
     more ∙ ap (λ (said : List ℕ). said ++ frame (spelling.answer given)) is

@@ -6,3 +6,8 @@ pub mod Passing
 pub mod Ways
 pub mod Replying
 pub mod Batching
+pub mod Answering
+pub mod Telling
+pub mod Asking
+pub mod Finishing
+pub mod Pieces

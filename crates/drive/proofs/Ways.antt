@@ -167,3 +167,51 @@ falls-on one rest next falls =
 
 pub falls-by-end : (one : Begun) (rest : List Begun) (end : End) → Falls one.task (passed.Ends end) → left_in rest < left_in (one ∷ rest)
 falls-by-end one rest end falls = omega (arith, falls, sum_by-cons (λ (b : Begun). left_of b.task) one rest)
+
+-- ---- One turn of the way
+
+pub way-goes-on : (before now after : BookValue) (journal : List Entry) (begun live : List Begun) (one : Begun) (rest : List Begun) (ends : List CallEnd) (given : Passed) (next : Live)
+    → live ≡ one ∷ rest → given ≡ passed.GoesOn next → KeepsFixed before now → IsUnderWay before now journal begun live ends
+    → ((j : List Entry) → StandsFor now j → Passes now after j one.task given)
+    → IsUnderWay before after journal begun (rest ++ record { place = one.place; task = next } ∷ []) ends
+way-goes-on before now after journal begun live one rest ends given next first is fixed way passes =
+    goes-on before now after journal begun one rest ends next
+    (turned before now after journal begun one rest ends (passed.GoesOn next) fixed
+    (subst (λ (list : List Begun). IsUnderWay before now journal begun list ends) first way)
+    (λ j stands. subst (λ (p : Passed). Passes now after j one.task p) is (passes j stands)))
+
+pub way-ends : (before now after : BookValue) (journal : List Entry) (begun live : List Begun) (one : Begun) (rest : List Begun) (ends : List CallEnd) (given : Passed) (end : End)
+    → live ≡ one ∷ rest → given ≡ passed.Ends end → KeepsFixed before now → IsUnderWay before now journal begun live ends
+    → ((j : List Entry) → StandsFor now j → Passes now after j one.task given)
+    → IsUnderWay before after journal begun rest (ends ++ record { place = one.place; end = end } ∷ [])
+way-ends before now after journal begun live one rest ends given end first is fixed way passes =
+    has-ended before now after journal begun one rest ends end
+    (turned before now after journal begun one rest ends (passed.Ends end) fixed
+    (subst (λ (list : List Begun). IsUnderWay before now journal begun list ends) first way)
+    (λ j stands. subst (λ (p : Passed). Passes now after j one.task p) is (passes j stands)))
+
+pub left-goes-on : (live : List Begun) (one : Begun) (rest : List Begun) (given : Passed) (next : Live) → live ≡ one ∷ rest
+    → given ≡ passed.GoesOn next → Falls one.task given → left_in (rest ++ record { place = one.place; task = next } ∷ []) < left_in live
+left-goes-on live one rest given next first is falls =
+    subst (λ (list : List Begun). left_in (rest ++ record { place = one.place; task = next } ∷ []) < left_in list) (sym first)
+    (falls-on one rest next (subst (λ (p : Passed). Falls one.task p) is falls))
+
+pub left-ends : (live : List Begun) (one : Begun) (rest : List Begun) (given : Passed) (end : End) → live ≡ one ∷ rest
+    → given ≡ passed.Ends end → Falls one.task given → left_in rest < left_in live
+left-ends live one rest given end first is falls =
+    subst (λ (list : List Begun). left_in rest < left_in list) (sym first)
+    (falls-by-end one rest end (subst (λ (p : Passed). Falls one.task p) is falls))
+
+-- the first of those that are live is ready, and what it has read belongs to the journal
+pub first-live : (before now : BookValue) (journal : List Entry) (begun live : List Begun) (one : Begun) (rest : List Begun) (ends : List CallEnd)
+    → live ≡ one ∷ rest → (way : IsUnderWay before now journal begun live ends) → IsLive before.grants (journal ++ way.later) (length journal) one.task
+first-live before now journal begun live one rest ends first way =
+    (subst (λ (list : List Begun). AllByRecursion (IsLiveOf before.grants (journal ++ way.later) (length journal) begun) list) first way.live_so).0.is
+
+pub first-ran : (before now : BookValue) (journal : List Entry) (begun live : List Begun) (one : Begun) (rest : List Begun) (ends : List CallEnd)
+    → live ≡ one ∷ rest → KeepsFixed before now → IsUnderWay before now journal begun live ends
+    → (j : List Entry) → StandsFor now j → Ran now.grants j one.task
+first-ran before now journal begun live one rest ends first fixed way = λ j stands.
+    subst (λ (g : GrantsList). Ran g j one.task) (sym fixed.grants)
+    (subst (λ (other : List Entry). Ran before.grants other one.task) (one-journal now (journal ++ way.later) j way.stands stands)
+    (first-live before now journal begun live one rest ends first way).ran)

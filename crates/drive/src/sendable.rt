@@ -65,7 +65,8 @@ fn item_within(item: &Item)
             now,
             now_at,
         } => {
-            let _place = (table.0, key.bytes());
+            let _table = table.0;
+            let _key = key.bytes();
             let _numbers = (*read, *read_at, *now, *now_at);
         }
         Item::Pushed { load, spent, reads } => {
@@ -115,7 +116,8 @@ fn parked_item_within(item: &Item)
             now,
             now_at,
         } => {
-            let _place = (table.0, key.bytes());
+            let _table = table.0;
+            let _key = key.bytes();
             let _numbers = (*read, *read_at, *now, *now_at);
         }
         Item::Full { at } => {
