@@ -1,5 +1,6 @@
 pub mod Extensions
 pub mod Turning
 pub mod Tasks
+pub mod Following
 pub mod Laws
 pub mod Parking

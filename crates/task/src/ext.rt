@@ -4,6 +4,8 @@ ghost use Rattle.task.specs.Extensions.{fault_of};
 use crate::ext_fault::ExtFault;
 use ext_check::{CheckFault, check_text};
 use ext_mean::Program;
+use gen_code::Code;
+use gen_compile::compile;
 use sp_base::{Blob, Memory};
 use std::alloc::Global;
 use std::marker::Model;
@@ -14,6 +16,8 @@ use std::sync::Arc;
 pub struct Ext {
     text: Blob,
     program: Arc<Program>,
+    /// The code of the program, which was compiled once.
+    code: Arc<Code>,
 }
 
 impl Model for Ext {
@@ -21,6 +25,7 @@ impl Model for Ext {
     ghost use Rattle.std.specs.Coded.{codes};
     ghost use Rattle.ext_mean.specs.contracts.statement.Block as block;
     ghost use Rattle.ext_check.specs.Checking.{IsAccepted};
+    ghost use Rattle.gen_code.specs.Does.{Does};
     ghost use Rattle.task.specs.Extensions.{ExtValue};
 
     ghost Value = { ExtValue };
@@ -29,7 +34,7 @@ impl Model for Ext {
 
     ghost view = { λ e. record { text = e.text; program = arc_value e.program } };
 
-    ghost invariant = { λ e. IsAccepted e.text (arc_value e.program) };
+    ghost invariant = { λ e. IsAccepted e.text (arc_value e.program) × Does (arc_value e.code) (arc_value e.program) };
 }
 
 impl Ext {
@@ -38,6 +43,7 @@ impl Ext {
     ghost use Rattle.ext_mean.specs.declared.refusal.Refusal.{Refusal};
     ghost use Rattle.ext_mean.specs.declared.tree.Program.{Program};
     ghost use Rattle.ext_check.specs.Checking.{IsAccepted, IsRefused};
+    ghost use Rattle.gen_code.specs.Does.{Does};
     ghost use Rattle.task.specs.Extensions.{Explains, IsExtension, Makes, Tells};
 
     /// The extension of a text that parses, is typed and keeps the rules of ownership. A text is
@@ -58,15 +64,23 @@ impl Ext {
         }
     }
 
-    /// The extension of a text that is accepted as this program.
+    /// The extension of a text that is accepted as this program, with the program's code.
     fn of(alloc: Global, text: &[u8], program: Program) -> Result<Ext, ExtFault>
         requires { IsAccepted text.now program }
         ensures ok { IfOk result (λ ext. ext ≡ record { text = text.now; program = program }) }
         ensures err { IfErr result (λ fault. fault ≡ ExtFault.Memory) }
     {
         let text = Blob::of(alloc, text)?;
+        let code = compile(alloc, &program)?;
+        let Ok(code) = Arc::new(alloc, code) else {
+            return Err(ExtFault::Memory);
+        };
         match Arc::new(alloc, program) {
-            Ok(program) => Ok(Ext { text, program }),
+            Ok(program) => Ok(Ext {
+                text,
+                program,
+                code,
+            }),
             Err(_) => Err(ExtFault::Memory),
         }
     }
@@ -90,6 +104,13 @@ impl Ext {
         ensures { IfOk result (λ program. arc_value program ≡ self.now.program) }
     {
         Ok(Arc::try_clone(&self.program)?)
+    }
+
+    /// Another hold on the code, which does what the program means.
+    pub(crate) fn code_shared(&self) -> Result<Arc<Code>, Memory>
+        ensures { IfOk result (λ code. Does (arc_value code) self.now.program) }
+    {
+        Ok(Arc::try_clone(&self.code)?)
     }
 }
 

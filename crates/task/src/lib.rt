@@ -6,6 +6,7 @@ mod ext_fault;
 mod laws;
 mod parked;
 mod phase;
+mod plain;
 mod task;
 mod turned;
 
@@ -17,5 +18,6 @@ pub use laws::{
 };
 pub use parked::Parked;
 pub use phase::Phase;
+pub use plain::PlainTask;
 pub use task::Task;
 pub use turned::Turned;

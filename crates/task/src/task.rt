@@ -1,18 +1,25 @@
-ghost use Rattle.std.specs.Prelude.{◌≡◌, ◌≢◌, ◌≤◌, ◌<◌, [], IfOk, IfErr, OnOk, OnErr};
+//! Tasks: calls that run in turns, each of which resumes the machine.
+
+ghost use Rattle.std.specs.Prelude.{◌≡◌, ◌≢◌, ◌<◌, IfOk, IfErr, OnOk, OnErr};
 ghost use Rattle.std.specs.Arc.{arc_value};
-ghost use Rattle.ext_mean.specs.Outcomes.{EndsWith};
+ghost use Rattle.ext_mean.specs.declared.run.Run.TheVariants as meant;
 ghost use Rattle.sp_base.specs.Spelling.{FitsOpt};
+ghost use Rattle.gen_code.specs.Does.{Does};
+ghost use Rattle.gen_vm.specs.Running as running;
+ghost use Rattle.gen_vm.specs.Standing.{Stands};
+ghost use Rattle.task.specs.Following.{phase_of};
 ghost use Rattle.task.specs.Laws.{MayBegin};
 ghost use Rattle.task.specs.Tasks.{HasEnded, IsTask, told_of};
-ghost use Rattle.task.specs.Turning.{begun, ending, given, meaning_with, spending, turn_of, units_of_turn, waiting};
+ghost use Rattle.task.specs.Turning.{begun, given, meaning_with, turn_of, units_of_turn};
 
 use crate::ext::Ext;
 use crate::phase::Phase;
 use crate::turned::Turned;
-use ext_eval::eval;
-use ext_mean::{Program, Run};
+use ext_mean::Program;
+use gen_code::Code;
+use gen_vm::{Gen, Paused};
 use rw_set::{Finished, ReadSet};
-use sp_base::{Call, Key, Memory, Outcome, ReadItem, Rights, TableId, Writes};
+use sp_base::{Blob, Call, Memory, Outcome, ReadItem, Rights, Writes};
 use std::alloc::Global;
 use std::marker::Model;
 use std::sync::Arc;
@@ -25,10 +32,14 @@ pub struct Task {
     ext: Arc<Ext>,
     /// The program of the extension, so that a run that has ended has it without memory.
     program: Arc<Program>,
+    code: Arc<Code>,
     rights: Rights,
     reads: ReadSet,
     spent: u32,
-    phase: Phase,
+    /// The run of the code. Where a turn found no memory, it may stand behind the units spent.
+    run: Gen,
+    /// Whether the call was ended because its budget is spent.
+    killed: bool,
 }
 
 impl Model for Task {
@@ -36,6 +47,7 @@ impl Model for Task {
     ghost use Rattle.std.specs.Arc.{arc_value};
     ghost use Rattle.std.specs.Coded.{codes};
     ghost use Rattle.ext_mean.specs.contracts.statement.Block as block;
+    ghost use Rattle.task.specs.Following.{Follows, live_of};
     ghost use Rattle.task.specs.Tasks.{IsTask};
     ghost use Rattle.task.specs.Turning.{Live};
 
@@ -43,11 +55,54 @@ impl Model for Task {
 
     ghost coded = { Prim.hlevel (codes, block.the_row.coded) };
 
-    ghost view = { λ t. record { call = t.call; ext = arc_value t.ext; rights = t.rights; reads = t.reads; spent = t.spent; phase = t.phase } };
+    ghost view = { λ t. live_of t.call (arc_value t.ext) t.rights t.reads t.spent t.killed t.run };
 
     ghost invariant = { λ t.
-        IsTask (record { call = t.call; ext = arc_value t.ext; rights = t.rights; reads = t.reads; spent = t.spent; phase = t.phase })
-        × (arc_value t.program ≡ (arc_value t.ext).program) };
+        IsTask (live_of t.call (arc_value t.ext) t.rights t.reads t.spent t.killed t.run)
+        × (arc_value t.program ≡ (arc_value t.ext).program)
+        × Follows (arc_value t.code) (live_of t.call (arc_value t.ext) t.rights t.reads t.spent t.killed t.run) t.run };
+}
+
+/// What a call that begins has of its extension, and the run of its code.
+fn beginning(
+    alloc: Global,
+    call: &Call,
+    ext: &Ext,
+    rights: &Rights,
+) -> Result<(Arc<Program>, Arc<Code>, Gen), Memory>
+    ensures program { IfOk result (λ parts. arc_value parts.0 ≡ ext.now.program) }
+    ensures does { IfOk result (λ parts. Does (arc_value parts.1) ext.now.program) }
+    ensures run { IfOk result (λ parts. parts.2 ≡ running.begun (arc_value parts.1) call.now.args call.now.budget rights.now) }
+    ensures stands { IfOk result (λ parts. Stands (arc_value parts.1) parts.2) }
+{
+    let program = ext.program_shared()?;
+    let code = ext.code_shared()?;
+    let args = call.args.share(alloc)?;
+    let rights = rights.share(alloc)?;
+    let run = Gen::start(alloc, &code, args, call.budget, rights)?;
+    Ok((program, code, run))
+}
+
+/// An equal value.
+fn share_value(alloc: Global, value: &Option<Blob>) -> Result<Option<Blob>, Memory>
+    ensures { IfOk result (λ copy. copy ≡ value.now) }
+{
+    match value {
+        Some(bytes) => Ok(Some(bytes.share(alloc)?)),
+        None => Ok(None),
+    }
+}
+
+/// How a call ended: killed, or as its run did.
+fn ended(alloc: Global, run: Gen, killed: bool) -> (Outcome, Writes)
+    requires { HasEnded (phase_of killed run.phase) }
+    ensures { phase_of killed run.phase ≡ Phase.Ended result.0 result.1 }
+{
+    if killed {
+        (Outcome::Killed, Writes::new(alloc))
+    } else {
+        run.outcome()
+    }
 }
 
 impl Task {
@@ -62,16 +117,18 @@ impl Task {
         ensures ok { IfOk result (λ task. task ≡ begun call (arc_value ext) rights) }
         ensures back { IfErr result (λ refused. refused.1 ≡ call) }
     {
-        match ext.program_shared() {
-            Ok(program) => Ok(Task {
+        match beginning(alloc, &call, &ext, &rights) {
+            Ok((program, code, run)) => Ok(Task {
                 alloc,
                 call,
                 ext,
                 program,
+                code,
                 rights,
                 reads: ReadSet::new(alloc),
                 spent: 0,
-                phase: Phase::Ready,
+                run,
+                killed: false,
             }),
             Err(Memory) => Err((Memory, call)),
         }
@@ -87,18 +144,17 @@ impl Task {
         ensures memory { result ≡ Turned.Memory → self.new ≡ self.old }
     {
         let units = self.units(quantum);
-        let run = match self.meaning(units) {
-            Ok(run) => run,
-            Err(Memory) => return Turned::Memory,
-        };
-        match run {
-            Run::Wants { table, key, used } => self.wait(table, key, used),
-            Run::Spent => self.run_out(quantum, units),
-            Run::Trapped { trap, .. } => {
-                let none = Writes::new(self.alloc);
-                self.end(Outcome::Trapped(trap), none)
+        if units < self.run.used() {
+            return self.run_out(quantum, units);
+        }
+        match self.run.resume(&self.code, units) {
+            Paused::Wants { table, key } => {
+                self.spent = self.run.used();
+                Turned::Wants { table, key }
             }
-            Run::Done { reply, writes, .. } => self.end(Outcome::Done(reply), writes),
+            Paused::Out => self.run_out(quantum, units),
+            Paused::Ended => Turned::Ended,
+            Paused::Memory => Turned::Memory,
         }
     }
 
@@ -110,36 +166,11 @@ impl Task {
         self.spent + quantum.min(left)
     }
 
-    /// What the program means with so many units on what was read.
-    fn meaning(&self, units: u32) -> Result<Run, Memory>
-        ensures { IfOk result (λ run. run ≡ meaning_with self.now units) }
-    {
-        let args = self.call.args.bytes();
-        let reads = self.reads.items();
-        eval(self.alloc, &self.program, args, units, &self.rights, reads)
-    }
-
-    /// The run wants a record.
-    fn wait(&mut self, table: TableId, key: Key, used: u32) -> Turned
-        requires { IsTask (waiting self.old table key used) }
-        ensures turn { result ≢ Turned.Memory → self.new ≡ waiting self.old table key used }
-        ensures told { result ≢ Turned.Memory → result ≡ told_of self.new.phase }
-        ensures memory { result ≡ Turned.Memory → self.new ≡ self.old }
-    {
-        let wanted = match key.share(self.alloc) {
-            Ok(wanted) => wanted,
-            Err(Memory) => return Turned::Memory,
-        };
-        self.spent = used;
-        self.phase = Phase::Waiting { table, key };
-        Turned::Wants { table, key: wanted }
-    }
-
     /// The units of a turn are spent: those of a quantum, or all of the budget.
     fn run_out(&mut self, quantum: u32, units: u32) -> Turned
         requires ready { self.old.phase ≡ Phase.Ready }
         requires units { units ≡ units_of_turn self.old quantum }
-        requires spent { meaning_with self.old units ≡ Run.Spent }
+        requires spent { meaning_with self.old units ≡ meant.Spent }
         ensures turn { self.new ≡ turn_of self.old quantum }
         ensures told { result ≡ told_of self.new.phase }
     {
@@ -147,19 +178,9 @@ impl Task {
             self.spent = units;
             Turned::Ran
         } else {
-            let none = Writes::new(self.alloc);
-            self.end(Outcome::Killed, none)
+            self.killed = true;
+            Turned::Ended
         }
-    }
-
-    /// The run has ended.
-    fn end(&mut self, outcome: Outcome, writes: Writes) -> Turned
-        requires { EndsWith (meaning_with self.old self.old.call.budget) outcome writes }
-        ensures turn { self.new ≡ ending self.old outcome writes }
-        ensures told { result ≡ Turned.Ended }
-    {
-        self.phase = Phase::Ended { outcome, writes };
-        Turned::Ended
     }
 
     /// The record that the task waits for. Without memory it comes back, and the task waits still.
@@ -170,8 +191,12 @@ impl Task {
         ensures err { OnErr result (self.new ≡ self.old) }
         ensures back { IfErr result (λ refused. refused.1 ≡ item) }
     {
+        let value = match share_value(self.alloc, &item.value) {
+            Ok(value) => value,
+            Err(Memory) => return Err((Memory, item)),
+        };
         self.reads.add(item)?;
-        self.phase = Phase::Ready;
+        self.run.feed(value);
         Ok(())
     }
 
@@ -228,23 +253,23 @@ impl Task {
         ensures ended { self.phase ≡ Phase.Ended result.outcome result.writes }
     {
         let Task {
+            alloc,
             call,
             program,
             rights,
             reads,
-            phase,
+            run,
+            killed,
             ..
         } = self;
-        match phase {
-            Phase::Ended { outcome, writes } => Finished {
-                call,
-                program,
-                rights,
-                reads,
-                outcome,
-                writes,
-            },
-            Phase::Ready | Phase::Waiting { .. } => unreachable!(),
+        let (outcome, writes) = ended(alloc, run, killed);
+        Finished {
+            call,
+            program,
+            rights,
+            reads,
+            outcome,
+            writes,
         }
     }
 }
