@@ -24,6 +24,12 @@ go_on-requires-clause-may c =
     may-be-pushed c.args.self.now c.requires.stands c.take.new.self c.args.worker c.args.quantum c.in-Some.task c.turn.new.self
     c.requires.worker c.in-Some.ensures (c.turn.ensures.turn some)
 
+pub read-requires-clause-ran : goal.read-requires-clause-ran
+read-requires-clause-ran c =
+    let some : c.turn.result ≢ told.Memory = λ memory. (let clash : told.Wants c.in-Wants.table c.in-Wants.key ≡ told.Memory = sym c.in-Wants.is ∙ memory in cc) in
+    ran-each c.args.self.now c.requires.stands c.take.new.self c.args.worker c.args.quantum c.in-Some.task c.turn.new.self
+    c.in-Some.ensures (c.turn.ensures.turn some)
+
 pub read-requires-clause-may : goal.read-requires-clause-may
 read-requires-clause-may c =
     let some : c.turn.result ≢ told.Memory = λ memory. (let clash : told.Wants c.in-Wants.table c.in-Wants.key ≡ told.Memory = sym c.in-Wants.is ∙ memory in cc) in
