@@ -183,7 +183,8 @@ fn answer_all(
 {
     for body in bodies {
         let reply = reply_to(alloc, session, book, quantum, body.bytes())?;
-        if say_reply(alloc, said, &reply)? {
+        let last = say_reply(alloc, said, &reply)?;
+        if last {
             return Ok(true);
         }
     }
@@ -206,15 +207,18 @@ fn end_piece(
     alloc: Global,
     session: &mut Session,
     framer: &Framer,
-    stopped: bool,
+    ended: bool,
     said: &mut Vec<u8>,
 ) -> Result<bool, Memory>
-    ensures ends { IfOk result (λ ends. EndsPiece session.old session.new framer.now.broken stopped said.old.items ends said.new.items) }
+    ensures ends { IfOk result (λ stopped. EndsPiece session.old session.new framer.now.broken ended said.old.items stopped said.new.items) }
     ensures conf { session.new.conf ≡ session.old.conf }
 {
-    if stopped || framer.broken().is_none() {
-        return Ok(stopped);
+    if ended {
+        return Ok(ended);
     }
+    let Some(_) = framer.broken() else {
+        return Ok(false);
+    };
     let answer = session.end(Fault::TooLong);
     say(alloc, said, &answer)?;
     Ok(true)
@@ -248,8 +252,8 @@ pub fn drive(
     let _journal = book.journal();
     let bodies = bodies_in(alloc, framer, piece)?;
     let mut said = Vec::new(alloc);
-    let stopped = answer_all(alloc, session, book, quantum, bodies, &mut said)?;
-    let stopped = end_piece(alloc, session, framer, stopped, &mut said)?;
+    let ended = answer_all(alloc, session, book, quantum, bodies, &mut said)?;
+    let stopped = end_piece(alloc, session, framer, ended, &mut said)?;
     Ok(Driven {
         said: Blob::from_vec(said),
         stopped,
