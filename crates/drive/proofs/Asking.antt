@@ -1,5 +1,6 @@
 -- What a session does about a request is a reply.
 use Rattle.std.specs.Prelude.{true}
+use Rattle.wire.specs.declared.faults.WireFault.{WireFault}
 use Rattle.wire.specs.declared.faults.WireFault.TheVariants as wrong
 use Rattle.std.specs.List.{AllByRecursion}
 use Rattle.std.specs.declared.vec.Vec.{Vec}
@@ -128,8 +129,7 @@ stopped-replies old new before after journal body message (Some given) spelled p
   later = planned.later;
   stands = planned.stands;
   from_each = λ state was.
-      let leads = planned.does.0.explained state was in
-      (
+      let leads = planned.does.0.explained state was in (
         leads.next,
         hearing.by_fault given leads.next
             (spelled-message (terms_over old before) (journal ++ planned.later) state body message given leads.next spelled leads.step)
@@ -141,8 +141,7 @@ stopped-replies old new before after journal body message None spelled planned =
   later = planned.later;
   stands = planned.stands;
   from_each = λ state was.
-      let bye = planned.does.bye in
-      (
+      let bye = planned.does.bye in (
         state,
         hearing.by_bye (subst (λ (m : Request). SpellsRequest body m) bye spelled)
             (subst (λ (t : Option TenantId). is_in_turn t request.Bye ≡ true) (sym was.tenant)
@@ -200,8 +199,8 @@ batch-finished old mid new before between after journal message begun_calls give
     let runs = planned.does in
     let own = terms-same old mid before between planned.conf fixed in
     let finishes = done.finishes runs.calls
-        (subst (λ (t : Terms). Awaits mid t here runs.calls) (sym own) runs.awaits)
-        (subst (λ (g : GrantsList). AllByRecursion (HasBegun mid g here runs.calls) begun_calls.items) (sym fixed.grants) runs.each) in
+    (subst (λ (t : Terms). Awaits mid t here runs.calls) (sym own) runs.awaits)
+    (subst (λ (g : GrantsList). AllByRecursion (HasBegun mid g here runs.calls) begun_calls.items) (sym fixed.grants) runs.each) in
     let whole = append_assoc journal planned.later done.later in
     record {
       later = planned.later ++ done.later;
@@ -276,5 +275,5 @@ planned-of old was new before after journal message one made given same asks is 
     (subst (λ (m : Request). Planned old new before after journal m made) asks.stands_for
     (subst (λ (s : Session). Planned s new before after journal (request_of one) made) same planned))
 
-pub none-spelled : (body : List ℕ) (at : ℕ) → ((m : Request) → SpellsRequest body m → wrong.Bad at ≡ wrong.Memory) → NoRequest body
-none-spelled body at only = λ m spelled. (let clash : wrong.Bad at ≡ wrong.Memory = only m spelled in cc)
+pub none-spelled : (body : List ℕ) (told : WireFault) (at : ℕ) → told ≡ wrong.Bad at → ((m : Request) → SpellsRequest body m → told ≡ wrong.Memory) → NoRequest body
+none-spelled body told at is only = λ m spelled. (let clash : wrong.Bad at ≡ wrong.Memory = sym is ∙ only m spelled in cc)

@@ -174,9 +174,9 @@ settled-now grants limit journal since call program rights reads outcome writes 
       });
     }
 
-told-so : (given memory judged : Commit) → (given ≡ memory → ⊥) → (given ≡ memory) ⊎ (given ≡ judged) → given ≡ judged
-told-so given memory judged some (inl is) = absurd (some is)
-told-so given memory judged some (inr is) = is
+told-so : (given lack judged : Commit) → (given ≡ lack → ⊥) → (given ≡ lack) ⊎ (given ≡ judged) → given ≡ judged
+told-so given lack judged some (inl is) = absurd (some is)
+told-so given lack judged some (inr is) = is
 
 -- a run that was committed or refused has its end
 pub commit-ends : (grants : GrantsList) (limit : ℕ) (journal : List Entry) (since : ℕ) (call : Call) (program : Program) (rights : RightsList) (reads : List ReadItem) (outcome : Outcome) (writes : List Write) (given : Commit)

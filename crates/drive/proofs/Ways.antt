@@ -145,7 +145,7 @@ all-fresh : (grants : GrantsList) (journal : List Entry) (begun front back : Lis
 all-fresh grants journal begun front [] is fresh = tt
 all-fresh grants journal begun front (one ∷ back) is fresh = (
   fresh-live grants journal begun (length front) one
-  (subst (λ (all : List Begun). slice_get all (length front) ≡ Some one) is (slice_get-append_seam front one back)) fresh.0,
+      (subst (λ (all : List Begun). slice_get all (length front) ≡ Some one) is (slice_get-append_seam front one back)) fresh.0,
   all-fresh grants journal begun (front ++ one ∷ []) back (append_assoc front (one ∷ []) back ∙ is) fresh.1,
 )
 
@@ -202,7 +202,7 @@ pub way-stands : (before now after : BookValue) (journal : List Entry) (begun li
     → ((j : List Entry) → StandsFor now j → Passes now after j one.task given) → StandsOn after journal
 way-stands before now after journal begun live one rest ends given first fixed way passes =
     let has = turned before now after journal begun one rest ends given fixed
-        (subst (λ (list : List Begun). IsUnderWay before now journal begun list ends) first way) passes in
+    (subst (λ (list : List Begun). IsUnderWay before now journal begun list ends) first way) passes in
     record { later = has.later; stands = has.stands }
 
 -- the first of those that are live is ready, and what it has read belongs to the journal

@@ -50,6 +50,7 @@ fn read(book: &Book, task: Task, table: TableId, key: Key) -> Passed
     ensures passes { (journal : List Entry) → StandsFor book.now journal → Passes book.now book.now journal task result }
     ensures spent { SpendsAsMuch task result }
 {
+    let _kept = task.spent();
     let item = match book.read(task.call().caller.tenant, table, &key) {
         Read::Found(item) => item,
         Read::Memory => return Passed::Ends(End::Memory),

@@ -103,7 +103,13 @@ fn is_answered(rt: &impl Abort, alloc: Global, book: Book, body: &[u8]) -> Resul
     let mut session = opened(alloc, &book)?;
     let mut framer = Framer::new(alloc);
     let hello = bytes_of(alloc, "0000000d 01 00000001 0000000000000007")?;
-    let welcome = says(alloc, &mut session, &mut framer, &mut book, hello.as_slice())?;
+    let welcome = says(
+        alloc,
+        &mut session,
+        &mut framer,
+        &mut book,
+        hello.as_slice(),
+    )?;
     if welcome.stopped {
         return Err(Fail::new("no welcome"));
     }
@@ -113,7 +119,13 @@ fn is_answered(rt: &impl Abort, alloc: Global, book: Book, body: &[u8]) -> Resul
     let mut frame = Vec::from_slice(alloc, &length.to_be_bytes())?;
     frame.extend_from_slice(body)?;
     let entries = book.len();
-    let driven = says(alloc, &mut session, &mut framer, &mut book, frame.as_slice())?;
+    let driven = says(
+        alloc,
+        &mut session,
+        &mut framer,
+        &mut book,
+        frame.as_slice(),
+    )?;
     let said = body_said(alloc, driven.said.bytes())?;
     match decode_request(alloc, body) {
         Ok(request) => {

@@ -11,10 +11,12 @@ use std::test::Fail;
 use task::Ext;
 
 /// Looks its arguments up in table 5, and replies what stands there.
-pub const LOOK_UP: &str = "fn main() -> int { get(5, args()) { some s => { resp(s); } none => { } } return 0; }\n";
+pub const LOOK_UP: &str =
+    "fn main() -> int { get(5, args()) { some s => { resp(s); } none => { } } return 0; }\n";
 
 /// Counts in table 6, under its arguments.
-pub const COUNTER: &str = "fn main() -> int { let n: int = 0; get(6, args()) { some s => { n = u64(s, 0); } \
+pub const COUNTER: &str =
+    "fn main() -> int { let n: int = 0; get(6, args()) { some s => { n = u64(s, 0); } \
 none => { } } let b: buf = alloc(6, args(), 8); set8(b, 0, n + 1); put(b); return n + 1; }\n";
 
 /// Tenant 1 may write table 5 alone; key k has v1 there; its extension 0 looks up.
@@ -36,7 +38,10 @@ pub fn counters(alloc: Global, limit: u64) -> Result<Book, Fail>
 {
     let rights = vec![in alloc; (TableId(5), Level::Write), (TableId(6), Level::Write)]?;
     let others = vec![in alloc; (TableId(5), Level::Read)]?;
-    let grants = vec![in alloc; (TenantId(1), Rights::of(rights)), (TenantId(2), Rights::of(others))]?;
+    let grants = vec![in alloc;
+        (TenantId(1), Rights::of(rights)),
+        (TenantId(2), Rights::of(others)),
+    ]?;
     let mut book = Book::new(alloc, Grants::of(grants), limit, false);
     install(alloc, &mut book, COUNTER)?;
     Ok(book)

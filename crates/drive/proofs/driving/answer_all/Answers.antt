@@ -19,8 +19,8 @@ loop-body-init c = record {
   heard = λ journal stands. hears-nothing c.args.session.now c.args.book.now journal c.args.said.now.items stands;
 }
 
-pub reply_to-reply-requires-clause-stands : goal.reply_to-reply-requires-clause-stands
-reply_to-reply-requires-clause-stands c =
+pub reply_to-requires-clause-stands : goal.reply_to-requires-clause-stands
+reply_to-requires-clause-stands c =
     let heard = c.loop-body.invariant.heard c.requires.stands.0 c.requires.stands.1 in
     (c.requires.stands.0 ++ heard.later, heard.stands)
 
@@ -62,3 +62,8 @@ returns-then-last-clause-heard c =
     (λ j others. subst (λ (b : List ℕ). Replies c.loop-body.session c.reply_to.new.session c.loop-body.book c.reply_to.new.book j b given)
     c.bytes.ensures (c.in_ok-reply.ensures.replied j others))
     last c.in_ok-last.ensures.1
+
+pub returns-then-last-clause-stands : goal.returns-then-last-clause-stands
+returns-then-last-clause-stands c = λ journal stands.
+    let heard = c.loop-body.invariant.heard journal stands in
+    stands-then c.reply_to.new.book journal heard.later (c.reply_to.ensures.stands (journal ++ heard.later) heard.stands)

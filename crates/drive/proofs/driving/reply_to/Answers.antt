@@ -11,4 +11,4 @@ returns-in-Err-Bad-clause-replied c = λ journal stands.
     subst (λ (a : Answer). Replies c.args.session.now c.end.new.self c.args.book.now c.args.book.now journal c.args.body.now (reply.Last (Some a)))
     (sym c.end.ensures.told)
     (unheard-replies c.args.session.now c.end.new.self c.args.book.now journal c.args.body.now stands
-    (none-spelled c.args.body.now _ c.in-Err-Bad.ensures.only) c.end.ensures.stands)
+    (none-spelled c.args.body.now c.in-Err-Bad.field-0 _ c.in-Err-Bad.field-0-is c.in-Err-Bad.ensures.only) c.end.ensures.stands)

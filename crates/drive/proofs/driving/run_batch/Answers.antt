@@ -17,4 +17,4 @@ finish_batch-requires-clause-here c =
 pub returns-clause-answered : goal.returns-clause-answered
 returns-clause-answered c = λ journal stands.
     batch-answered c.args.session.now c.finish_batch.new.self c.args.book.now c.run_all.new.book journal c.args.begun.items c.in_ok-ends.ends.items c.finish_batch.result
-    (c.requires.fits journal stands) c.run_all.ensures.fixed (c.in_ok-ends.ensures.ran journal stands) c.finish_batch.ensures.finished
+    (c.requires.fits journal stands) (c.in_ok-ends.ensures.ran journal stands) c.finish_batch.ensures.finished

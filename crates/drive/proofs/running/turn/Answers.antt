@@ -17,7 +17,7 @@ pub returns-in-Wants-clause-passes : goal.returns-in-Wants-clause-passes
 returns-in-Wants-clause-passes c =
     let some : c.turn.result ≢ told.Memory = λ memory. (let clash : told.Wants c.in-Wants.table c.in-Wants.key ≡ told.Memory = sym c.in-Wants.is ∙ memory in cc) in
     λ journal stands. passes-along c.args.book.now c.args.book.now journal c.args.task c.turn.new.self c.args.quantum c.read.result
-        (c.turn.ensures.turn some) (c.read.ensures.passes journal stands)
+    (c.turn.ensures.turn some) (c.read.ensures.passes journal stands)
 
 pub returns-in-Wants-clause-falls : goal.returns-in-Wants-clause-falls
 returns-in-Wants-clause-falls c =
@@ -30,3 +30,13 @@ returns-in-Wants-clause-falls c =
 
 pub returns-in-Memory-clause-passes : goal.returns-in-Memory-clause-passes
 returns-in-Memory-clause-passes c = λ journal stands. memory-passes c.args.book.now journal c.args.task stands
+
+pub read-requires-clause-ran : goal.read-requires-clause-ran
+read-requires-clause-ran c =
+    let some : c.turn.result ≢ told.Memory = λ memory. (let clash : told.Wants c.in-Wants.table c.in-Wants.key ≡ told.Memory = sym c.in-Wants.is ∙ memory in cc) in
+    λ journal stands. ran-turned c.args.book.now.grants journal c.args.task c.turn.new.self c.args.quantum (c.turn.ensures.turn some) (c.requires.ran journal stands)
+
+pub end-requires-clause-ran : goal.end-requires-clause-ran
+end-requires-clause-ran c =
+    let some : c.turn.result ≢ told.Memory = λ memory. (let clash : told.Ended ≡ told.Memory = sym c.in-Ended.is ∙ memory in cc) in
+    λ journal stands. ran-turned c.args.book.now.grants journal c.args.task c.turn.new.self c.args.quantum (c.turn.ensures.turn some) (c.requires.ran journal stands)
