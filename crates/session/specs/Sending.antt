@@ -1,6 +1,7 @@
 -- What a client sends as the end of its parked call, and reads that join a parked call.
-use Rattle.std.specs.Prelude.{◌≡◌, ◌<◌, Bool, IsTrue, List, length, None}
+use Rattle.std.specs.Prelude.{◌≡◌, ◌<◌, Bool, IsTrue, List, length, Option, Some, None}
 use Rattle.std.specs.List.{AllByRecursion}
+use Rattle.sp_base.specs.declared.numbers.TenantId.{TenantId}
 use Rattle.sp_base.specs.declared.reads.ReadItem.{ReadItem}
 use Rattle.sp_base.specs.Limits.{IsArguments}
 use Rattle.sp_base.specs.RightsList.{can_write}
@@ -28,7 +29,8 @@ pub record IsSentAs (rights : RightsList) (parked : ParkedCall) (finish : Finish
   pub taken : refusal_of rights finish.outcome finish.writes ≡ None
   pub within : AllByRecursion (λ write. IsTrue (can_write rights write.table.0)) sent.writes
 
--- a run that was sent may be committed over a journal
-pub record SentFits (audit : Bool) (sent : Sent) (journal : List Entry) (grants : GrantsList) : Type 0 where
+-- a run that was sent is the tenant's, and may be committed over a journal
+pub record SentFits (tenant : Option TenantId) (audit : Bool) (sent : Sent) (journal : List Entry) (grants : GrantsList) : Type 0 where
+  pub own : tenant ≡ Some sent.call.caller.tenant
   pub args : IsArguments sent.call.args
   pub ran : SentOn grants audit journal sent.call sent.outcome sent.writes sent.reads

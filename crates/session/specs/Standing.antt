@@ -1,5 +1,5 @@
 -- Where a session stands: the states of explained sessions that it has come to, and the journals that it fits.
-use Rattle.std.specs.Prelude.{◌≡◌, ◌≢◌, ◌≤◌, ℕ, true, IsTrue, List, [], ◌∷◌, ◌++◌, ◌+◌, ◌-◌, ◌/◌, length, Option, Some, None, slice_get, take}
+use Rattle.std.specs.Prelude.{◌≡◌, ◌≢◌, ◌≤◌, ℕ, true, IsTrue, List, [], ◌∷◌, ◌++◌, ◌+◌, ◌-◌, ◌*◌, length, Option, Some, None, slice_get, take}
 use Rattle.std.specs.List.{AllByRecursion}
 use Rattle.sp_base.specs.declared.calls.Asked.{Asked}
 use Rattle.sp_base.specs.declared.numbers.TenantId.{TenantId}
@@ -135,8 +135,8 @@ HasOwnRights None journal grants = Unit {0}
 HasOwnRights (Some admitted) journal grants = admitted.rights ≡ granted grants journal admitted.tenant
 
 -- A parked call belongs to a journal: it is the tenant's, and as it began; its extension's number names its
--- extension; each of its reads is in a table that may be read and is what the journal held when it was made; and it
--- has no more reads than its budget pays.
+-- extension; each of its reads is in a table that may be read, is what the journal held when it was made, and is paid
+-- with 16 units of its budget.
 pub record IsParkedIn (tenant : TenantId) (rights : RightsList) (journal : List Entry) (parked : ParkedCall) : Type 0 where
   pub own : parked.call.caller.tenant ≡ tenant
   pub args : IsArguments parked.call.args
@@ -144,7 +144,7 @@ pub record IsParkedIn (tenant : TenantId) (rights : RightsList) (journal : List 
   pub named : NamesExt journal parked.call parked.ext
   pub held : AllByRecursion (IsHeld journal) parked.reads
   pub readable : AllByRecursion (λ read. IsTrue (can_read rights read.table.0)) parked.reads
-  pub few : length parked.reads ≤ parked.call.budget / 16
+  pub paid : 16 * length parked.reads ≤ parked.call.budget
 
 abbrev pub ParkedFit : Option Admitted → List Entry → List ParkedCall → Type 0
 ParkedFit None journal parked = parked ≡ []
@@ -161,10 +161,10 @@ pub record Fits (session : Session) (journal : List Entry) (grants : GrantsList)
   pub few : length (parked_in session) ≤ MOST_PARKED
   pub parked : ParkedFit session.admitted journal (parked_in session)
 
--- an ask fits a journal where its run may be committed over it
-abbrev pub AskFits : SessionConf → Ask → List Entry → GrantsList → Type 0
-AskFits conf (ask.Finish sent) journal grants = SentFits conf.audit sent journal grants
-AskFits conf _ journal grants = Unit {0}
+-- an ask of the session fits a journal: its run is the tenant's, and may be committed over it
+abbrev pub AskFits : Session → Ask → List Entry → GrantsList → Type 0
+AskFits session (ask.Finish sent) journal grants = SentFits (tenant_of session.admitted) session.conf.audit sent journal grants
+AskFits session _ journal grants = Unit {0}
 
 -- ---- Requests on their way
 
@@ -180,12 +180,11 @@ IsPlain (request.Install text) = ⊥
 IsPlain (request.Finish caller number outcome writes) = ⊥
 IsPlain _ = Unit {0}
 
--- a run that was sent is the tenant's, and its caller has no other call parked
-pub record IsTaken (session : Session) (sent : Sent) : Type 0 where
-  pub own : tenant_of session.admitted ≡ Some sent.call.caller.tenant
-  pub gone : call_in (parked_in session) sent.call.caller.number ≡ None
+-- the call of a run that was sent is no longer parked
+abbrev pub IsTaken : Session → Sent → Type 0
+IsTaken session sent = call_in (parked_in session) sent.call.caller.number ≡ None
 
--- only a session with a tenant is asked to install or to finish
+-- only a session with a tenant is asked to install
 abbrev pub IsAsked : Session → Ask → Type 0
 IsAsked session (ask.Plain message) = IsPlain message
 IsAsked session (ask.Install ext) = (tenant : TenantId) × (tenant_of session.admitted ≡ Some tenant)
@@ -310,7 +309,7 @@ pub record Asks (old new : Session) (message : Request) (given : Ask) : Type 0 w
   pub ready : IsOpen new
   pub still : (state : State) → Stands old state → StandsAsking new given state
   pub fits : (journal : List Entry) (grants : GrantsList) → Fits old journal grants → Fits new journal grants
-  pub ask_fits : (journal : List Entry) (grants : GrantsList) → Fits old journal grants → AskFits old.conf given journal grants
+  pub ask_fits : (journal : List Entry) (grants : GrantsList) → Fits old journal grants → AskFits new given journal grants
   pub conf : new.conf ≡ old.conf
 
 -- the answer of a session

@@ -1,7 +1,10 @@
 //! The requests of calls that are parked.
 
-ghost use Rattle.std.specs.Prelude.{◌≡◌, IfErr, IfOk, List, Some, length, nat_le, ◌/◌};
+ghost use Rattle.std.specs.Prelude.{◌≡◌, ◌/◌, IfErr, IfOk, IfSome, List, Some, length, nat_le};
+ghost use Rattle.std.specs.Option.{option_copied};
 ghost use Rattle.sp_base.specs.Spelling.{FitsOpt};
+ghost use Rattle.ext_mean.specs.Laws.{place_in};
+ghost use Rattle.rw_set.specs.ReadLists.{read_of};
 ghost use Rattle.journal.specs.declared.entry.Entry.{Entry};
 ghost use Rattle.book.specs.Standing.{KeepsFixed, StandsFor};
 ghost use Rattle.task.specs.Parking.{ParkedCall};
@@ -11,7 +14,7 @@ ghost use Rattle.session.specs.Fetching.{HasFetched, IsFoundOr, JoinsOr};
 ghost use Rattle.session.specs.Keeping.{call_in};
 ghost use Rattle.session.specs.Sending.{MayJoin, SentFits};
 ghost use Rattle.session.specs.States.{seen_in_fetch};
-ghost use Rattle.session.specs.Standing.{Asks, Fits, IsOpen, IsTaken, Planned, PlannedFrom, Refused, StandsWithSent, tenant_of};
+ghost use Rattle.session.specs.Standing.{Asks, Fits, IsOpen, IsTaken, IsWithin, Planned, PlannedFrom, Refused, StandsWithSent, tenant_of};
 
 use crate::ending::share_value;
 use crate::fault::Fault;
@@ -29,7 +32,9 @@ use wire::{Answer, FetchAnswer, Item};
 
 /// Tells a record that was read.
 fn found(alloc: Global, read: &ReadItem) -> FetchAnswer
-    ensures { IsFoundOr result read.now }
+    requires { FitsOpt read.now.value }
+    ensures told { IsFoundOr result read.now }
+    ensures within { IsWithin (Answer.Fetched result) }
 {
     match share_value(alloc, &read.value) {
         Ok(value) => FetchAnswer::Found {
@@ -45,7 +50,8 @@ fn found(alloc: Global, read: &ReadItem) -> FetchAnswer
 fn join(alloc: Global, calls: &mut ParkedCalls, caller: u32, item: ReadItem) -> FetchAnswer
     requires joins { (parked : ParkedCall) × (call_in calls.old caller ≡ Some parked) × MayJoin parked item }
     requires value { FitsOpt item.value }
-    ensures { JoinsOr calls.old calls.new caller item result }
+    ensures told { JoinsOr calls.old calls.new caller item result }
+    ensures within { IsWithin (Answer.Fetched result) }
 {
     let Ok(value) = share_value(alloc, &item.value) else {
         return FetchAnswer::Memory;
@@ -60,6 +66,16 @@ fn join(alloc: Global, calls: &mut ParkedCalls, caller: u32, item: ReadItem) -> 
         },
         Err(Memory) => FetchAnswer::Memory,
     }
+}
+
+/// The read that a parked call has made of a place.
+fn read_before<'a>(parked: &'a Parked, table: TableId, key: &Key) -> Option<&'a ReadItem>
+    ensures found { option_copied result ≡ read_of parked.now.reads (place_in table key.now) }
+    ensures value { IfSome result (λ read. FitsOpt read.now.value) }
+{
+    let reads = parked.reads();
+    let _kept = reads.items();
+    reads.find(table, key)
 }
 
 /// Whether a parked call has as many reads as its budget pays.
@@ -106,7 +122,7 @@ impl Session {
     pub(crate) fn finish(&mut self, book: &mut Book, sent: Sent) -> Plan
         requires open { IsOpen self.old }
         requires fits { (journal : List Entry) → StandsFor book.old journal → Fits self.old journal book.old.grants }
-        requires sent_fits { (journal : List Entry) → StandsFor book.old journal → SentFits book.old.audit sent journal book.old.grants }
+        requires sent_fits { (journal : List Entry) → StandsFor book.old journal → SentFits (tenant_of self.old.admitted) book.old.audit sent journal book.old.grants }
         requires taken { IsTaken self.old sent }
         requires within { FitsRequest (request.Finish sent.call.caller.number sent.call.number sent.outcome sent.writes) }
         ensures planned { (journal : List Entry) → StandsFor book.old journal
@@ -134,6 +150,7 @@ impl Session {
         requires admitted { tenant_of self.old.admitted ≡ Some tenant }
         ensures told { (journal : List Entry) → StandsFor book.now journal
             → HasFetched book.now.grants tenant journal self.old.parked self.new.parked caller number.0 table key.now result }
+        ensures within { IsWithin (Answer.Fetched result) }
         ensures same { self.new ≡ record self.old { parked = self.new.parked } }
     {
         let _stands = book.journal();
@@ -143,7 +160,7 @@ impl Session {
         if parked.call().number.0 != number.0 {
             return FetchAnswer::NotParked;
         }
-        if let Some(read) = parked.reads().find(table, key) {
+        if let Some(read) = read_before(parked, table, key) {
             return found(self.alloc, read);
         }
         let full = has_all_reads(parked);

@@ -122,7 +122,7 @@ impl Session {
     pub fn answer(&mut self, book: &mut Book, ask: Ask) -> Plan
         requires open { IsOpen self.old }
         requires fits { (journal : List Entry) → StandsFor book.old journal → Fits self.old journal book.old.grants }
-        requires ask_fits { (journal : List Entry) → StandsFor book.old journal → AskFits self.old.conf ask journal book.old.grants }
+        requires ask_fits { (journal : List Entry) → StandsFor book.old journal → AskFits self.old ask journal book.old.grants }
         requires audit { self.old.conf.audit ≡ book.old.audit }
         requires asked { IsAsked self.old ask }
         requires within { FitsRequest (request_of ask) }
