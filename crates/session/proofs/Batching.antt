@@ -1,6 +1,7 @@
 -- A batch is answered at once, or its calls run; and it is answered when they have ended.
 use Rattle.std.specs.declared.alloc.Global.{Global}
 use Rattle.std.specs.declared.vec.Vec.{Vec}
+use Rattle.std.specs.Prelude.{slice_get}
 use Rattle.std.specs.List.{AllByRecursion}
 use Rattle.std.proofs.Common.{◌≡◌, ◌≢◌, ◌≤◌, ◌<◌, ◌+◌, ◌^◌, ℕ, List, [], ◌∷◌, ◌++◌, length, take, Option, Some, None, refl, sym, subst, ap, ◌∙◌, arith, length-append, append-nil}
 use Rattle.sp_base.specs.declared.calls.Asked.{Asked}
@@ -107,7 +108,7 @@ batch-runs old new book journal tenant calls items begun_calls fits admitted sta
           some = fit.some;
           few = fit.few;
           refusals = all.refusals;
-          args = all-map FitsAsked (λ asked. IsArguments asked.args) calls (λ asked fits_asked. fits_asked.args) fit.each;
+          args = all-map FitsAsked (λ (asked : Asked). IsArguments asked.args) calls (λ asked fits_asked. fits_asked.args) fit.each;
           free = subst (λ (list : List ParkedCall). AreFree list calls items.items) (sym parked) all.free;
           each = λ state was. items-longer (terms_over old book) tenant journal [] state calls items.items
               (all.each state (stands-still new old state was (sym own) (sym parked) (sym seen)));
@@ -123,6 +124,17 @@ one-so-far : (now : Phase) (items others : List Item) → ItemsSoFar now items �
 one-so-far phase.Open items others is are = absurd is
 one-so-far (phase.Running so_far) items others is are = sym is ∙ are
 one-so-far phase.Ended items others is are = absurd is
+
+-- the phase, the parked calls and what was seen, together
+pub batch-over : (old new : Session) (between : List ParkedCall) (now : Phase) → new ≡ record old { phase = now; parked = between; seen = new.seen }
+    → now ≡ phase.Open → (between ≡ new.parked) × (new ≡ record old { phase = phase.Open; parked = new.parked; seen = new.seen })
+batch-over old new between now new_is opened =
+    let parked : between ≡ new.parked = sym (ap (λ (s : Session). s.parked) new_is) in
+    (
+      parked,
+      new_is ∙ ap (λ (p : Phase). let s : Session = record old { phase = p; parked = between; seen = new.seen } in s) opened
+      ∙ ap (λ (l : List ParkedCall). let s : Session = record old { phase = phase.Open; parked = l; seen = new.seen } in s) parked,
+    )
 
 -- the calls of the batch have ended
 pub batch-finishes : (old new : Session) (terms : Terms) (journal : List Entry) (calls : List Asked) (items told : List Item) (ends : List CallEnd)
@@ -146,5 +158,6 @@ batch-finishes old new terms journal calls items told ends small fits awaits so_
       sends = done.sends;
       fits = done.fits;
       conf = ap (λ (s : Session). s.conf) new_is;
-      shows = fills-show ends 0 old.parked new.parked items told ends (λ k one found. found) fills (refusals-show ends items refusals);
+      shows = fills-show ends 0 old.parked new.parked items told ends
+          (λ k one found. subst (λ (m : ℕ). slice_get ends m ≡ Some one) (let e : k ≡ 0 + k = omega arith in e) found) fills (refusals-show ends items refusals);
     }

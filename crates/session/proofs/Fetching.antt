@@ -1,7 +1,7 @@
 -- A record is told to the client of a parked call.
 use Rattle.std.specs.Prelude.{◌==◌, ◌≢◌, max, Bool, true, false, IsTrue, if◌then◌else◌}
 use Rattle.std.specs.List.{AllByRecursion}
-use Rattle.std.proofs.Common.{◌≡◌, ◌≤◌, ◌<◌, ◌+◌, ◌*◌, ◌/◌, ℕ, List, [], ◌∷◌, ◌++◌, length, take, Option, Some, None, refl, sym, subst, ap, ◌∙◌, arith, eq-eqb, length-append}
+use Rattle.std.proofs.Common.{◌≡◌, ◌≤◌, ◌<◌, ◌+◌, ◌*◌, ◌/◌, ◌⊎◌, ℕ, List, [], ◌∷◌, ◌++◌, length, take, Option, Some, None, refl, sym, subst, ap, ◌∙◌, inl, inr, arith, eq-eqb, length-append}
 use Rattle.std.proofs.lemmas.Bool.{eqb-true}
 use Rattle.std.proofs.Math.Nat.{le-div_iff_mul-le}
 use Rattle.std.proofs.Math.Seq.{take-length}
@@ -21,6 +21,7 @@ use Rattle.journal.specs.declared.entry.Entry.{Entry}
 use Rattle.journal.specs.Folds.{tables_of, version_of}
 use Rattle.journal.specs.Granted.{granted}
 use Rattle.journal.specs.Reads.{IsHeld}
+use Rattle.book.specs.declared.answers.Read.TheVariants as reading
 use Rattle.book.specs.Standing.{BookValue, StandsFor}
 use Rattle.book.specs.Verdict.{item_at}
 use Rattle.wire.specs.declared.answers.Answer.TheVariants as answer
@@ -31,7 +32,8 @@ use Rattle.session.specs.declared.plan.Plan.TheVariants as plan
 use Rattle.session.specs.declared.session.Admitted.{Admitted}
 use Rattle.session.specs.declared.session.Session.{Session}
 use Rattle.session.specs.Fetching as fetching
-use Rattle.session.specs.Fetching.{HasFetched, IsFresh}
+use Rattle.session.specs.Fetching.{HasFetched, IsFoundOr, IsFresh, JoinsOr}
+use Rattle.session.specs.Sending.{MayJoin}
 use Rattle.session.specs.Keeping.{Changes, IsOfEach, IsParkedAs, call_in, has_number, joined}
 use Rattle.session.specs.Standing.{AreKept, Fits, HasOwnRights, IsOpen, IsParkedIn, IsWithin, Matches, ParkedFit, Planned, Stands, tenant_of, terms_over}
 use Rattle.session.specs.States.{IsMap, Kept, State, after_answer, kept_of, seen_in_fetch, with_call, without}
@@ -136,11 +138,11 @@ held-now journal table key = record {
 
 pub unpaid : (n budget : ℕ) → 16 * n ≤ budget → budget / 16 ≤ n → n ≡ budget / 16
 unpaid n budget paid full =
-    let by : n ≤ budget / 16 = (le-div_iff_mul-le {16} {n} {budget} (omega arith)).1 (omega (arith, paid)) in omega (arith, by, full)
+    let by : n ≤ budget / 16 = (le-div_iff_mul-le {k = 16} {x = n} {y = budget} (omega arith)).1 (omega (arith, paid)) in omega (arith, by, full)
 
 pub still-paid : (n budget : ℕ) → n < budget / 16 → 16 * (n + 1) ≤ budget
 still-paid n budget less =
-    let by : (n + 1) * 16 ≤ budget = (le-div_iff_mul-le {16} {n + 1} {budget} (omega arith)).0 (omega (arith, less)) in omega (arith, by)
+    let by : (n + 1) * 16 ≤ budget = (le-div_iff_mul-le {k = 16} {x = n + 1} {y = budget} (omega arith)).0 (omega (arith, less)) in omega (arith, by)
 
 -- one read more fits
 joined-in : (tenant : TenantId) (rights : RightsList) (journal : List Entry) (one : ParkedCall) (table : TableId) (key : List ℕ) (read : ReadItem)
@@ -163,7 +165,7 @@ fit-changed : (own : Option Admitted) (journal : List Entry) (grants : GrantsLis
     → (IsParkedIn tenant (granted grants journal tenant) journal one → IsParkedIn tenant (granted grants journal tenant) journal now)
     → ParkedFit own journal after
 fit-changed None journal grants tenant before after caller one now admitted rights fit found changes leads = absurd cc
-fit-changed (Some admitted) journal grants tenant before after caller one now is rights fit found changes leads other call there =
+fit-changed (Some admitted) journal grants tenant before after caller one now is rights fit found changes leads = λ other call there.
     split (other == caller)
     (λ holds.
     let same : other ≡ caller = eqb-true other caller holds in
@@ -183,6 +185,13 @@ pub parked-held : (own : Option Admitted) (journal : List Entry) (tenant : Tenan
     → tenant_of own ≡ Some tenant → ParkedFit own journal parked → call_in parked caller ≡ Some one → AllByRecursion (IsHeld journal) one.reads
 parked-held None journal tenant parked caller one is fit found = absurd cc
 parked-held (Some admitted) journal tenant parked caller one is fit found = (fit caller one found).held
+
+-- and each is paid from a budget that is good
+pub parked-paid : (own : Option Admitted) (journal : List Entry) (tenant : TenantId) (parked : List ParkedCall) (caller : ℕ) (one : ParkedCall)
+    → tenant_of own ≡ Some tenant → ParkedFit own journal parked → call_in parked caller ≡ Some one
+    → (one.call.budget ≤ 100000) × (16 * length one.reads ≤ one.call.budget)
+parked-paid None journal tenant parked caller one is fit found = absurd cc
+parked-paid (Some admitted) journal tenant parked caller one is fit found = let in_it = fit caller one found in (in_it.budget, in_it.paid)
 
 -- ---- The answer
 
@@ -299,6 +308,18 @@ fetches old book journal tenant state parked caller number table key given fits 
   kept_so = subst (λ (calls : List ParkedCall). AreKept calls state.kept) (sym same) stands.kept;
 }
 
+-- what was fetched and what was shown, together
+pub fetched-so : (old mid new : Session) (given : FetchAnswer) → mid ≡ record old { parked = mid.parked }
+    → new ≡ record mid { seen = seen_in_fetch mid.seen given }
+    → (mid.parked ≡ new.parked) × (new ≡ record old { parked = new.parked; seen = seen_in_fetch old.seen given })
+fetched-so old mid new given mid_is new_is =
+    let parked : mid.parked ≡ new.parked = sym (ap (λ (s : Session). s.parked) new_is) in
+    (
+      parked,
+      new_is ∙ ap (λ (s : Session). let t : Session = record s { seen = seen_in_fetch s.seen given } in t) mid_is
+      ∙ ap (λ (l : List ParkedCall). let t : Session = record old { parked = l; seen = seen_in_fetch old.seen given } in t) parked,
+    )
+
 pub fetch-planned : (old new : Session) (book : BookValue) (journal : List Entry) (tenant : TenantId) (caller number : ℕ) (table : TableId) (key : List ℕ) (given : FetchAnswer)
     → IsOpen old → Fits old journal book.grants → tenant_of old.admitted ≡ Some tenant → StandsFor book journal
     → HasFetched book.grants tenant journal old.parked new.parked caller number table key given → IsWithin (answer.Fetched given)
@@ -343,4 +364,58 @@ fetch-planned old new book journal tenant caller number table key given ready fi
         },
         opened,
       );
+    }
+
+-- ---- How the session finds it
+
+pub other-number : (parked : List ParkedCall) (caller number : ℕ) (one : ParkedCall) → call_in parked caller ≡ Some one → (one.call.number.0 == number) ≡ false
+    → has_number number (call_in parked caller) ≡ false
+other-number parked caller number one found other = ap (has_number number) found ∙ other
+
+pub found-told : (grants : GrantsList) (tenant : TenantId) (journal : List Entry) (parked : List ParkedCall) (caller number : ℕ) (table : TableId) (key : List ℕ) (one : ParkedCall) (read : ReadItem) (given : FetchAnswer)
+    → IsParkedAs parked caller number one → read_of one.reads (place_in table key) ≡ Some read → IsFoundOr given read
+    → HasFetched grants tenant journal parked parked caller number table key given
+found-told grants tenant journal parked caller number table key one read given parked_as found told =
+    elim told [
+      | inl h ↦ subst (λ (a : FetchAnswer). HasFetched grants tenant journal parked parked caller number table key a) (sym h) (fetching.no_memory refl)
+      | inr h ↦ subst (λ (a : FetchAnswer). HasFetched grants tenant journal parked parked caller number table key a) (sym h)
+          (fetching.read_before one read parked_as found refl)
+    ]
+
+pub join-told : (grants : GrantsList) (tenant : TenantId) (journal : List Entry) (before after : List ParkedCall) (caller number : ℕ) (table : TableId) (key : List ℕ) (one : ParkedCall) (read : ReadItem) (given : FetchAnswer)
+    → IsFresh before caller number table key one → IsTrue (can_read (granted grants journal tenant) table.0) → length one.reads < one.call.budget / 16
+    → read ≡ item_at journal table key → JoinsOr before after caller read given
+    → HasFetched grants tenant journal before after caller number table key given
+join-told grants tenant journal before after caller number table key one read given fresh readable few is told =
+    elim told [
+      | inl h ↦ subst (λ (a : FetchAnswer). HasFetched grants tenant journal before after caller number table key a) (sym h.0) (fetching.no_memory h.1)
+      | inr h ↦ subst (λ (a : FetchAnswer). HasFetched grants tenant journal before after caller number table key a) (sym h.0)
+          (fetching.read_now one read fresh readable few is h.1)
+    ]
+
+read-found-by : (can : Bool) (item at : ReadItem) → reading.Found item ≡ (if can then reading.Found at else reading.Denied) → (can ≡ true) × (item ≡ at)
+read-found-by true item at is = (refl, cc)
+read-found-by false item at is = absurd cc
+
+-- a record that the book found is in a table that may be read
+pub read-found : (can : Bool) (item at : ReadItem) → (reading.Found item ≡ reading.Memory) ⊎ (reading.Found item ≡ (if can then reading.Found at else reading.Denied))
+    → (can ≡ true) × (item ≡ at)
+read-found can item at (inl is) = absurd cc
+read-found can item at (inr is) = read-found-by can item at is
+
+read-denied-by : (can : Bool) (at : ReadItem) → reading.Denied ≡ (if can then reading.Found at else reading.Denied) → can ≡ false
+read-denied-by true at is = absurd cc
+read-denied-by false at is = refl
+
+pub read-denied : (can : Bool) (at : ReadItem) → (reading.Denied ≡ reading.Memory) ⊎ (reading.Denied ≡ (if can then reading.Found at else reading.Denied)) → can ≡ false
+read-denied can at (inl is) = absurd cc
+read-denied can at (inr is) = read-denied-by can at is
+
+pub may-join : (one : ParkedCall) (read : ReadItem) (journal : List Entry) (table : TableId) (key : List ℕ) → read_of one.reads (place_in table key) ≡ None
+    → read ≡ item_at journal table key → length one.reads < one.call.budget / 16 → one.call.budget ≤ 100000 → MayJoin one read
+may-join one read journal table key fresh is few small =
+    let paid = still-paid (length one.reads) one.call.budget few in
+    record {
+      fresh = ap (λ (r : ReadItem). read_of one.reads (place_of r)) is ∙ fresh;
+      room = omega (arith, paid, small);
     }

@@ -36,7 +36,7 @@ use Rattle.session.specs.Steps as steps
 use Rattle.session.proofs.Items.{IsHere, IsSoundItem, all-at, all-map, end-sound, items-counted, items-seen, items-sound, items-within, pushed-sound, refusal-here}
 use Rattle.session.proofs.Keeping.{call-beside, call-here, call-kept, call-last, each-more, kept-all-are, kept-all-map, kept_all, split, unlike}
 use Rattle.session.proofs.Leaving.{AllTell, IsHandedTo, IsPushedItem, Match, Pushes, Tells, left-behind}
-use Rattle.session.proofs.Parking.{fit-more, pushed-in}
+use Rattle.session.proofs.Handing.{fit-more, pushed-in}
 
 -- ---- Filling in
 
@@ -82,11 +82,11 @@ end-item session terms journal calls one tenant state admitted stands holds =
 -- ---- What each place has
 
 -- a call that was handed back stands among those that are parked, and is the first of its caller
-record IsHandedAt (parked : List ParkedCall) (tenant : TenantId) (journal : List Entry) (earlier : List Asked) (asked : Asked) (reads : List ReadItem) : Type 0 where
-  first : is_among earlier asked.caller ≡ false
-  handed : IsHandedTo parked tenant journal asked reads
+pub record IsHandedAt (parked : List ParkedCall) (tenant : TenantId) (journal : List Entry) (earlier : List Asked) (asked : Asked) (reads : List ReadItem) : Type 0 where
+  pub first : is_among earlier asked.caller ≡ false
+  pub handed : IsHandedTo parked tenant journal asked reads
 
-abbrev HasPlace : List ParkedCall → TenantId → List Entry → List Asked → Asked → Item → Type 0
+abbrev pub HasPlace : List ParkedCall → TenantId → List Entry → List Asked → Asked → Item → Type 0
 HasPlace parked tenant journal earlier asked item.Repeated = Unit {0}
 HasPlace parked tenant journal earlier asked (item.Busy number) = Unit {0}
 HasPlace parked tenant journal earlier asked (item.Pushed load spent reads) = IsHandedAt parked tenant journal earlier asked reads
@@ -232,7 +232,7 @@ pub record Filling (old : Session) (terms : Terms) (tenant : TenantId) (journal 
   pub of_each : IsOfEach parked
 
 -- the state that keeps just what is parked
-pub there_of : Session → State
+abbrev pub there_of : Session → State
 there_of session = record { tenant = tenant_of session.admitted; kept = kept_all session.parked; seen = session.seen }
 
 pub stands-there : (session : Session) → IsOfEach session.parked → Stands session (there_of session)
@@ -582,7 +582,7 @@ where-shows all at before after items told one false there fills shows place n o
 pub fills-show : (all : List CallEnd) (start : ℕ) (before after : List ParkedCall) (items told : List Item) (ends : List CallEnd)
     → ((k : ℕ) (one : CallEnd) → slice_get ends k ≡ Some one → slice_get all (start + k) ≡ Some one)
     → Fills before items ends after told → Shows all items → Shows all told
-fills-show all start before after items told [] among fills shows place n outcome found =
+fills-show all start before after items told [] among fills shows = λ place n outcome found.
     shows place n outcome (ap (λ (list : List Item). slice_get list place) (sym fills.1) ∙ found)
 fills-show all start before after items told (one ∷ ends) among fills shows =
     fills-show all (suc start) fills.0 after fills.1 told ends

@@ -1,8 +1,8 @@
 -- Items of a batch: what they show is in the journal.
-use Rattle.std.specs.Prelude.{max, ◌==◌, ◌&&◌, Bool, true, false, nat_le, slice_get, if◌then◌else◌}
+use Rattle.std.specs.Prelude.{IsTrue, max, ◌==◌, ◌&&◌, Bool, true, false, nat_le, slice_get, if◌then◌else◌}
 use Rattle.std.specs.List.{AllByRecursion}
 use Rattle.std.proofs.Common.{◌≡◌, ◌≤◌, ◌<◌, ◌+◌, ◌^◌, ◌⊎◌, ℕ, zero, suc, List, [], ◌∷◌, ◌++◌, length, take, Option, Some, None, refl, sym, subst, ap, ◌∙◌, inl, inr, arith, length-append}
-use Rattle.std.proofs.lemmas.Bool.{and_parts, leb-true}
+use Rattle.std.proofs.lemmas.Bool.{leb-true}
 use Rattle.std.proofs.lemmas.List.{length-take}
 use Rattle.std.proofs.lemmas.Option.{slice_get_within}
 use Rattle.sp_base.specs.declared.calls.Asked.{Asked}
@@ -168,12 +168,16 @@ reads-seen (read ∷ reads) before seen n by short held =
     let then_by = held.0.by_then in
     reads-seen reads before (max seen read.read_at) n (omega (arith, by, short, then_by)) short held.1
 
+last-holds : (a b c d : Bool) → (a && b && c && d) ≡ true → d ≡ true
+last-holds true true true d is = is
+last-holds true true false d is = absurd cc
+last-holds true false c d is = absurd cc
+last-holds false b c d is = absurd cc
+
 light : (policy : Policy) (load spent bytes : ℕ) (push_ok : Bool) → IsTrue (is_pushed policy load spent bytes push_ok) → bytes ≤ MOST_PUSHED
 light policy load spent bytes push_ok pushed =
-    let first = and_parts push_ok _ pushed in
-    let second = and_parts (nat_le policy.high load) _ first.1 in
-    let third = and_parts (nat_le policy.least spent) _ second.1 in
-    leb-true bytes MOST_PUSHED third.1
+    leb-true bytes MOST_PUSHED
+    (last-holds push_ok (nat_le policy.high load) (nat_le policy.least spent) (nat_le bytes MOST_PUSHED) pushed)
 
 -- a call that was handed back shows the moments of its reads
 pub pushed-sound : (grants : GrantsList) (policy : Policy) (journal : List Entry) (since : ℕ) (call : Call) (load spent : ℕ) (parked : ParkedCall)

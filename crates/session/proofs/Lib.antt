@@ -6,7 +6,7 @@ pub mod Telling
 pub mod Keeping
 pub mod Items
 pub mod Leaving
-pub mod Parking
+pub mod Handing
 pub mod Filling
 pub mod Asking
 pub mod Starting

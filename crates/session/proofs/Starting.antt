@@ -62,6 +62,10 @@ alone session state before asked stands unparked = record {
   free = is-free (kept_of state.kept asked.caller) (free-of session.parked state.kept asked.caller stands.kept unparked.free);
 }
 
+pub unparked-so : (parked : List ParkedCall) (before : List Asked) (asked : Asked) → is_among before asked.caller ≡ false → call_in parked asked.caller ≡ None
+    → IsUnparked parked before asked
+unparked-so parked before asked first free = record { first = first; free = free }
+
 pub starts-repeated : (session : Session) (book : BookValue) (journal : List Entry) (tenant : TenantId) (before : List Asked) (asked : Asked)
     → is_among before asked.caller ≡ true → Starts session book journal tenant before asked (start.Refused item.Repeated)
 starts-repeated session book journal tenant before asked among = record {

@@ -214,7 +214,7 @@ still-with old new state caller one sent was own seen found changes call_is read
 fit-without : (own : Option Admitted) (journal : List Entry) (before after : List ParkedCall) (caller : ℕ) → length after < length before
     → ParkedFit own journal before → Changes before after caller None → ParkedFit own journal after
 fit-without None journal before after caller fewer fit changes = (let none = ap length fit in absurd (omega (arith, fewer, none)))
-fit-without (Some admitted) journal before after caller fewer fit changes other one found =
+fit-without (Some admitted) journal before after caller fewer fit changes = λ other one found.
     split (other == caller)
     (λ holds.
     let it : other ≡ caller = eqb-true other caller holds in

@@ -8,7 +8,7 @@ use Rattle.sp_base.specs.RightsList.{can_write}
 use Rattle.ext_mean.specs.Views.{place_of}
 use Rattle.records.specs.GrantsList.{GrantsList, RightsList}
 use Rattle.rw_set.specs.declared.sent.Sent.{Sent}
-use Rattle.rw_set.specs.ReadLists.{most_reads, read_of}
+use Rattle.rw_set.specs.ReadLists.{read_of}
 use Rattle.task.specs.Parking.{ParkedCall}
 use Rattle.journal.specs.declared.entry.Entry.{Entry}
 use Rattle.book.specs.Standing.{SentOn}
@@ -18,7 +18,7 @@ use Rattle.parked.specs.Taking.{refusal_of}
 -- a read may join those of a parked call
 pub record MayJoin (parked : ParkedCall) (item : ReadItem) : Type 0 where
   pub fresh : read_of parked.reads (place_of item) ≡ None
-  pub room : length parked.reads < most_reads
+  pub room : length parked.reads < 6250
 
 -- what was sent is taken as the run of the parked call
 pub record IsSentAs (rights : RightsList) (parked : ParkedCall) (finish : Finish) (sent : Sent) : Type 0 where

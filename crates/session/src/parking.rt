@@ -165,8 +165,12 @@ impl Session {
         }
         let full = has_all_reads(parked);
         match book.read(tenant, table, key) {
-            Read::Found(_) if full => FetchAnswer::Many,
-            Read::Found(item) => join(self.alloc, &mut self.parked, caller, item),
+            Read::Found(item) => {
+                if full {
+                    return FetchAnswer::Many;
+                }
+                join(self.alloc, &mut self.parked, caller, item)
+            }
             Read::Denied => FetchAnswer::Denied,
             Read::Memory => FetchAnswer::Memory,
         }

@@ -11,15 +11,15 @@ invariant_of-self c =
     (subst (λ (calls : List ParkedCall). StandsAt calls c.args.caller c.in-Some.place) c.as_slice.ensures.value c.in-Some.ensures.there)
     c.remove-parked.ensures.items).1
 
-pub returns-then-go-clause-gone : goal.returns-then-go-clause-gone
-returns-then-go-clause-gone c =
+pub returns-in-Ok-clause-gone : goal.returns-in-Ok-clause-gone
+returns-in-Ok-clause-gone c =
     subst (λ (calls : List ParkedCall). Changes calls c.remove-parked.new.self.items c.args.caller None) c.self.view_is
     (removed c.self.inside.calls.items c.remove-parked.new.self.items c.args.caller c.in-Some.place c.self.invariant
     (subst (λ (calls : List ParkedCall). StandsAt calls c.args.caller c.in-Some.place) c.as_slice.ensures.value c.in-Some.ensures.there)
     c.remove-parked.ensures.items).0
 
-pub returns-then-go-clause-each : goal.returns-then-go-clause-each
-returns-then-go-clause-each c =
+pub returns-in-Ok-clause-each : goal.returns-in-Ok-clause-each
+returns-in-Ok-clause-each c =
     (removed c.self.inside.calls.items c.remove-parked.new.self.items c.args.caller c.in-Some.place c.self.invariant
     (subst (λ (calls : List ParkedCall). StandsAt calls c.args.caller c.in-Some.place) c.as_slice.ensures.value c.in-Some.ensures.there)
     c.remove-parked.ensures.items).1

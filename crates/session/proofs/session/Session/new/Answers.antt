@@ -1,5 +1,6 @@
 -- A new session has no tenant, no parked call and has seen nothing.
-use Rattle.std.proofs.Common.{List, refl, sym, subst, arith}
+use Rattle.std.proofs.Common.{◌≤◌, List, [], length, refl, sym, subst, arith}
+use Rattle.sp_base.specs.declared.limits.TheConstants.{MOST_PARKED}
 use Rattle.task.specs.Parking.{ParkedCall}
 use Rattle.session.specs.Keeping.{IsOfEach}
 use Rattle.session.specs.Standing.{AreKept}
@@ -18,6 +19,6 @@ returns-clause-fits c = λ journal grants. record {
   rights = tt;
   seen = omega arith;
   each = subst IsOfEach (sym c.new.ensures) tt;
-  few = omega (arith, c.new.ensures);
+  few = subst (λ (calls : List ParkedCall). length calls ≤ MOST_PARKED) (sym c.new.ensures) (omega arith);
   parked = c.new.ensures;
 }

@@ -121,7 +121,7 @@ pub fit-more : (own : Option Admitted) (journal : List Entry) (grants : GrantsLi
     → tenant_of own ≡ Some tenant → HasOwnRights own journal grants → ParkedFit own journal parked → call_in parked last.call.caller.number ≡ None
     → IsParkedIn tenant (granted grants journal tenant) journal last → ParkedFit own journal (parked ++ last ∷ [])
 fit-more None journal grants tenant parked last is rights fit none fits = absurd cc
-fit-more (Some admitted) journal grants tenant parked last is rights fit none fits caller one found =
+fit-more (Some admitted) journal grants tenant parked last is rights fit none fits = λ caller one found.
     split (last.call.caller.number == caller)
     (λ holds.
     let same : last.call.caller.number ≡ caller = eqb-true last.call.caller.number caller holds in
