@@ -58,6 +58,11 @@ abbrev pub kept_of : List Kept → ℕ → Option Kept
 kept_of [] caller = None
 kept_of (kept ∷ others) caller = if is_of caller kept then Some kept else kept_of others caller
 
+-- at most one call of each caller
+abbrev pub IsMap : List Kept → Type 0
+IsMap [] = Unit {0}
+IsMap (kept ∷ others) = (kept_of others kept.parked.call.caller.number ≡ None) × IsMap others
+
 -- without the call of a caller
 abbrev pub without : List Kept → ℕ → List Kept
 without [] caller = []
