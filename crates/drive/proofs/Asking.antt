@@ -21,11 +21,12 @@ use Rattle.session.specs.declared.plan.Begun.{Begun}
 use Rattle.session.specs.declared.plan.Ask.{Ask}
 use Rattle.session.specs.declared.plan.Plan.{Plan}
 use Rattle.session.specs.declared.plan.Plan.TheVariants as plan
+use Rattle.session.specs.declared.session.Admitted.{Admitted}
 use Rattle.session.specs.declared.session.Phase.{Phase}
 use Rattle.session.specs.declared.session.Phase.TheVariants as phase
 use Rattle.session.specs.declared.session.Session.{Session}
 use Rattle.session.specs.Standing as standing
-use Rattle.session.specs.Standing.{Asks, Awaits, EndsBy, Fits, HasBegun, HasEnded, IsInPhase, IsOpen, IsRunning, IsWithin, ItemsSoFar, Planned, Refused, Sends, Stands, request_of, tenant_of, terms_over}
+use Rattle.session.specs.Standing.{Asks, Awaits, EndsBy, Fits, HasBegun, HasEnded, IsInPhase, IsOpen, IsRunning, IsWithin, ItemsSoFar, Planned, PlannedFrom, Refused, Sends, Stands, StandsAsking, Does, request_of, tenant_of, terms_of, terms_over}
 use Rattle.session.specs.States.{State, Terms}
 use Rattle.session.specs.Steps.{faulted, is_in_turn}
 use Rattle.session.specs.declared.fault.Fault.TheVariants as fault
@@ -184,7 +185,7 @@ runs-begun old new before after journal message begun_calls fixed planned other 
 pub record IsFinished (old new : Session) (before after : BookValue) (journal : List Entry) (message : Request) (given : Answer) : Type 0 where
   pub later : List Entry
   pub stands : StandsFor after (journal ++ later)
-  pub explained : standing.Explains (terms_over old before) (journal ++ later) old new message given
+  pub explained : standing.Explains (terms_over old before) (journal ++ later) (Stands old) new message given
   pub ends : EndsBy given new
   pub within : IsWithin given
   pub fits : Fits new (journal ++ later) after.grants
@@ -266,14 +267,55 @@ unheard-replies old new book journal body stands none still = record {
 
 -- ---- What was asked
 
+-- what was sent with an ask on its way, was sent from each state for which the session stood before
+sends-from : (terms : Terms) (journal : List Entry) (old asked new : Session) (one : Ask) (message : Request) (given : Answer)
+    → ((state : State) → Stands old state → StandsAsking asked one state)
+    → Sends terms journal (StandsAsking asked one) new message given → Sends terms journal (Stands old) new message given
+sends-from terms journal old asked new one message given still sends = record {
+  explained = λ state was. sends.explained state (still state was);
+  ends = sends.ends;
+  within = sends.within;
+}
+
+does-from : (terms : Terms) (journal : List Entry) (old asked new : Session) (one : Ask) (message : Request) (given : Plan)
+    → ((state : State) → Stands old state → StandsAsking asked one state) → asked.admitted ≡ old.admitted
+    → Does terms journal (StandsAsking asked one) asked new message given → Does terms journal (Stands old) old new message given
+does-from terms journal old asked new one message (plan.Send given) still own does =
+    (sends-from terms journal old asked new one message given still does.0, does.1)
+does-from terms journal old asked new one message (plan.Run begun_calls) still own does = record {
+  calls = does.calls;
+  batch = does.batch;
+  awaits = does.awaits;
+  some = does.some;
+  each = does.each;
+  still = λ state was. does.still state (still state was);
+}
+does-from terms journal old asked new one message (plan.Stop (Some given)) still own does =
+    (sends-from terms journal old asked new one message given still does.0, does.1)
+does-from terms journal old asked new one message (plan.Stop None) still own does = record {
+  bye = does.bye;
+  in_turn = subst (λ (a : Option Admitted). is_in_turn (tenant_of a) message ≡ true) own does.in_turn;
+  ended = does.ended;
+  still = λ state was. does.still state (still state was);
+}
+
 -- the plan of an ask is that of its request
-pub planned-of : (old was new : Session) (before after : BookValue) (journal : List Entry) (message : Request) (one : Ask) (made given : Plan)
-    → was ≡ old → Asks old message one → made ≡ given → Planned was new before after journal (request_of one) made
+pub planned-of : (old asked new : Session) (before after : BookValue) (journal : List Entry) (message : Request) (one : Ask) (made given : Plan)
+    → Asks old asked message one → made ≡ given → PlannedFrom (StandsAsking asked one) asked new before after journal (request_of one) made
     → Planned old new before after journal message given
-planned-of old was new before after journal message one made given same asks is planned =
+planned-of old asked new before after journal message one made given asks is planned =
+    let own : terms_over asked before ≡ terms_over old before = ap (λ (c : SessionConf). terms_of c before.grants before.limit) asks.conf in
     subst (λ (p : Plan). Planned old new before after journal message p) is
-    (subst (λ (m : Request). Planned old new before after journal m made) asks.stands_for
-    (subst (λ (s : Session). Planned s new before after journal (request_of one) made) same planned))
+    (subst (λ (m : Request). Planned old new before after journal m made) asks.stands_for (record {
+      later = planned.later;
+      stands = planned.stands;
+      adds = planned.adds;
+      fits = planned.fits;
+      conf = planned.conf ∙ asks.conf;
+      does =
+          does-from (terms_over old before) (journal ++ planned.later) old asked new one (request_of one) made asks.still asks.admitted
+          (subst (λ (t : Terms). Does t (journal ++ planned.later) (StandsAsking asked one) asked new (request_of one) made) own planned.does);
+    }))
 
 pub none-spelled : (body : List ℕ) (told : WireFault) (at : ℕ) → told ≡ wrong.Bad at → ((m : Request) → SpellsRequest body m → told ≡ wrong.Memory) → NoRequest body
 none-spelled body told at is only = λ m spelled. (let clash : wrong.Bad at ≡ wrong.Memory = sym is ∙ only m spelled in cc)

@@ -1,7 +1,7 @@
 -- The calls of a batch that began, their ends, and the answer.
 use Rattle.std.specs.Prelude.{slice_get}
 use Rattle.std.specs.List.{AllByRecursion}
-use Rattle.std.proofs.Common.{◌≡◌, ◌≤◌, ◌<◌, ℕ, zero, suc, List, [], ◌∷◌, ◌++◌, length, take, Some, refl, sym, subst, ap, ◌∙◌, arith, length-append}
+use Rattle.std.proofs.Common.{◌≡◌, ◌≤◌, ◌<◌, ◌+◌, ℕ, zero, suc, List, [], ◌∷◌, ◌++◌, length, take, Some, refl, sym, subst, ap, ◌∙◌, arith, length-append}
 use Rattle.sp_base.specs.declared.calls.Asked.{Asked}
 use Rattle.sp_base.specs.declared.calls.Call.{Call}
 use Rattle.sp_base.specs.declared.calls.Policy.{Policy}
@@ -20,9 +20,9 @@ use Rattle.book.specs.Standing.{BookValue, StandsFor}
 use Rattle.session.specs.declared.plan.Begun.{Begun}
 use Rattle.session.specs.declared.session.Session.{Session}
 use Rattle.session.specs.Batches.{CanBegin, call_of}
-use Rattle.session.specs.Standing.{AllStay, EndHolds, HasBegun, terms_over}
+use Rattle.session.specs.Standing.{EndHolds, HasBegun, handed_back, is_handed_back, terms_over}
 use Rattle.session.proofs.LongerSteps.{can-begin-longer}
-use Rattle.drive.specs.Running.{IsEndOf, IsFresh, Ran}
+use Rattle.drive.specs.Running.{IsEndOf, IsFresh, Ran, StaysHere}
 
 -- ---- From an earlier moment on
 
@@ -137,7 +137,15 @@ ends-of-begun session book journal later calls begun_calls (one ∷ ends) seen h
   ends-of-begun session book journal later calls begun_calls ends seen has are.1,
 )
 
-pub ends-stay : (grants : GrantsList) (limit : ℕ) (journal : List Entry) (since : ℕ) (begun_calls : List Begun) (ends : List CallEnd)
-    → AllByRecursion (IsEndOf grants limit journal since begun_calls) ends → AllStay ends
-ends-stay grants limit journal since begun_calls [] are = tt
-ends-stay grants limit journal since begun_calls (one ∷ ends) are = (are.0.is.stays, ends-stay grants limit journal since begun_calls ends are.1)
+here-kept : (end : End) → StaysHere end → is_handed_back end ≡ 0
+here-kept (ended.Settled given) stays = refl
+here-kept (ended.Pushed load spent parked) stays = absurd stays
+here-kept ended.Memory stays = refl
+
+pub none-handed-back : (grants : GrantsList) (limit : ℕ) (journal : List Entry) (since : ℕ) (begun_calls : List Begun) (ends : List CallEnd)
+    → AllByRecursion (IsEndOf grants limit journal since begun_calls) ends → handed_back ends ≡ 0
+none-handed-back grants limit journal since begun_calls [] are = refl
+none-handed-back grants limit journal since begun_calls (one ∷ ends) are =
+    let own : is_handed_back one.end ≡ 0 = here-kept one.end are.0.is.stays in
+    let others : handed_back ends ≡ 0 = none-handed-back grants limit journal since begun_calls ends are.1 in
+    ap (λ (n : ℕ). n + handed_back ends) own ∙ others

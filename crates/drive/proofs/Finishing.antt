@@ -19,10 +19,11 @@ use Rattle.drive.proofs.Batching.{ends-of-begun}
 pub batch-answered : (old new : Session) (before after : BookValue) (journal : List Entry) (begun_calls : List Begun) (ends : List CallEnd) (given : Answer)
     → Fits old journal before.grants → IsUnderWay before after journal begun_calls [] ends
     → ((terms : Terms) (j : List Entry) (calls : List Asked) → terms.conf ≡ old.conf → length j < 2 ^ 64 → Fits old j terms.grants
-    → Awaits old terms j calls → AllByRecursion (EndHolds old terms j calls) ends → Finishes terms j calls old new given)
+    → Awaits old terms j calls → AllByRecursion (EndHolds old terms j calls) ends → Finishes terms j calls ends old new given)
     → IsBatchAnswered old new before after journal begun_calls given
 batch-answered old new before after journal begun_calls ends given fits way finishes = record {
   later = way.later;
+  ends = ends;
   stands = way.stands;
   finishes = λ calls awaits began.
       finishes (terms_over old before) (journal ++ way.later) calls refl (small-journal after (journal ++ way.later) way.stands)

@@ -3,6 +3,7 @@ use Rattle.std.specs.Prelude.{List, ◌++◌}
 use Rattle.std.specs.List.{AllByRecursion}
 use Rattle.sp_base.specs.declared.calls.Asked.{Asked}
 use Rattle.journal.specs.declared.entry.Entry.{Entry}
+use Rattle.book.specs.declared.ends.CallEnd.{CallEnd}
 use Rattle.book.specs.Standing.{BookValue, StandsFor}
 use Rattle.wire.specs.declared.answers.Answer.{Answer}
 use Rattle.session.specs.declared.plan.Begun.{Begun}
@@ -18,7 +19,8 @@ pub record HaveBegun (session : Session) (book : BookValue) (journal : List Entr
 -- whatever batch the session waited for is answered, by the journal for which the book then stands
 pub record IsBatchAnswered (old new : Session) (before after : BookValue) (journal : List Entry) (begun_calls : List Begun) (given : Answer) : Type 0 where
   pub later : List Entry
+  pub ends : List CallEnd
   pub stands : StandsFor after (journal ++ later)
   pub finishes : (calls : List Asked) → Awaits old (terms_over old before) journal calls
       → AllByRecursion (HasBegun old before.grants journal calls) begun_calls
-      → Finishes (terms_over old before) (journal ++ later) calls old new given
+      → Finishes (terms_over old before) (journal ++ later) calls ends old new given

@@ -9,10 +9,10 @@ use Rattle.task.specs.Turning.{Live}
 use Rattle.journal.specs.declared.entry.Entry.{Entry}
 use Rattle.book.specs.declared.ends.CallEnd.{CallEnd}
 use Rattle.book.specs.declared.ends.End.{End}
+use Rattle.book.specs.declared.ends.End.TheVariants as ended
 use Rattle.book.specs.Ends.{ItemHolds, MomentsRise}
 use Rattle.book.specs.Standing.{BookValue, RanOn, StandsFor}
 use Rattle.session.specs.declared.plan.Begun.{Begun}
-use Rattle.session.specs.Standing.{StaysHere}
 use Rattle.drive.specs.declared.running.Passed.{Passed}
 use Rattle.drive.specs.declared.running.Passed.TheVariants as passed
 
@@ -26,6 +26,12 @@ pub record IsLive (grants : GrantsList) (journal : List Entry) (since : ℕ) (li
   pub ready : live.phase ≡ Ready
   pub ran : Ran grants journal live
   pub rise : MomentsRise since live.reads
+
+-- an end that is no call handed back
+abbrev pub StaysHere : End → Type 0
+StaysHere (ended.Settled commit) = Unit {0}
+StaysHere (ended.Pushed load spent parked) = ⊥
+StaysHere ended.Memory = Unit {0}
 
 -- the end of a call holds by the journal, and the call stays in the server
 pub record IsEnd (grants : GrantsList) (limit : ℕ) (journal : List Entry) (since : ℕ) (call : Call) (end : End) : Type 0 where

@@ -158,6 +158,7 @@ refused-memory old tenant text ready admitted = record {
 asks-same : (session : Session) (message : Request) → IsOpen session → IsPlain message → Asks session session message (ask.Plain message)
 asks-same session message ready plain = record {
   stands_for = refl;
+  admitted = refl;
   asked = plain;
   ready = ready;
   still = λ state was. was;

@@ -276,6 +276,7 @@ take-asks old new admitted caller number finish sent ready is trusting has sent_
           ∙ ap (λ (n : CallNo). request.Finish caller n sent.outcome sent.writes) number_is
           ∙ ap (λ (o : Outcome). request.Finish caller number o sent.writes) so.outcome
           ∙ ap (λ (w : List Write). request.Finish caller number finish.outcome w) so.writes;
+      admitted = own;
       asked = ap (call_in new.parked) caller_is ∙ changes.own;
       ready = ap (λ (s : Session). s.phase) new_is ∙ ready;
       still = λ state was. still-with old new state caller one sent was own seen found changes so.call so.reads;

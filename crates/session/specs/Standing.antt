@@ -305,6 +305,7 @@ pub record Refused (old new : Session) (message : Request) (given : Answer) : Ty
 -- with the ask on its way, and both fit what the session fitted.
 pub record Asks (old new : Session) (message : Request) (given : Ask) : Type 0 where
   pub stands_for : request_of given ≡ message
+  pub admitted : new.admitted ≡ old.admitted
   pub asked : IsAsked new given
   pub ready : IsOpen new
   pub still : (state : State) → Stands old state → StandsAsking new given state

@@ -1,6 +1,8 @@
 -- The calls run, and their ends answer the batch.
 
-use Rattle.drive.proofs.Batching.{all-fresh-begun, ends-stay}
+use Rattle.std.proofs.Common.{◌≡◌, arith}
+use Rattle.session.specs.Standing.{handed_back}
+use Rattle.drive.proofs.Batching.{all-fresh-begun, none-handed-back}
 use Rattle.drive.proofs.Finishing.{batch-answered}
 use Rattle.drive.proofs.driving.run_batch.Goals as goal
 
@@ -9,10 +11,12 @@ run_all-requires-clause-fresh c = λ journal stands.
     let begun = c.requires.begun journal stands in
     all-fresh-begun c.args.session.now c.args.book.now.grants journal begun.calls c.args.begun.items begun.each
 
-pub finish_batch-requires-clause-here : goal.finish_batch-requires-clause-here
-finish_batch-requires-clause-here c =
+pub finish_batch-requires-clause-room : goal.finish_batch-requires-clause-room
+finish_batch-requires-clause-room c =
     let ran = c.in_ok-ends.ensures.ran c.requires.stands.0 c.requires.stands.1 in
-    ends-stay c.args.book.now.grants c.args.book.now.limit _ _ c.args.begun.items c.in_ok-ends.ends.items ran.ends_so
+    let none : handed_back c.in_ok-ends.ends.items ≡ 0 =
+    none-handed-back c.args.book.now.grants c.args.book.now.limit _ _ c.args.begun.items c.in_ok-ends.ends.items ran.ends_so in
+    omega (arith, none)
 
 pub returns-clause-answered : goal.returns-clause-answered
 returns-clause-answered c = λ journal stands.

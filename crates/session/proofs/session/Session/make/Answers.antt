@@ -16,6 +16,7 @@ returns-then-is_none-clause-refused c =
 pub returns-in-Ok-clause-asked : goal.returns-in-Ok-clause-asked
 returns-in-Ok-clause-asked c = record {
   stands_for = ap (λ (text : List ℕ). request.Install text) c.in-Ok.ensures.accepted.text_is;
+  admitted = refl;
   asked = admitted-some c.args.self.now.admitted c.if-is_none.ensures;
   ready = c.requires.open;
   still = λ state was. was;
