@@ -1,8 +1,6 @@
 -- Requests that are answered without the book, and sessions that end.
-use Rattle.std.specs.Prelude.{◌==◌, not, Bool, true, false, IsTrue, is_some, if◌then◌else◌}
-use Rattle.std.proofs.Common.{◌≡◌, ◌≤◌, ℕ, List, [], ◌∷◌, ◌++◌, length, Option, Some, None, refl, sym, subst, ap, ◌∙◌, arith, eq-eqb, length-append, append-nil}
-use Rattle.std.proofs.lemmas.Bool.{eqb-true}
-use Rattle.sp_base.specs.declared.numbers.TableId.{TableId}
+use Rattle.std.specs.Prelude.{not, true, false, is_some}
+use Rattle.std.proofs.Common.{◌≡◌, ℕ, List, [], ◌++◌, Option, Some, None, refl, sym, subst, ap, ◌∙◌, arith, length-append, append-nil}
 use Rattle.sp_base.specs.declared.numbers.TenantId.{TenantId}
 use Rattle.sp_base.specs.declared.outcomes.Outcome.{Outcome}
 use Rattle.sp_base.specs.declared.writes.Write.{Write}
@@ -17,11 +15,8 @@ use Rattle.records.specs.GrantsList.{GrantsList}
 use Rattle.journal.specs.declared.entry.Entry.{Entry}
 use Rattle.book.specs.Standing.{BookValue, StandsFor}
 use Rattle.wire.specs.Answers.{IsIn}
-use Rattle.wire.specs.declared.answers.Answer.{Answer}
 use Rattle.wire.specs.declared.answers.Answer.TheVariants as answer
-use Rattle.wire.specs.declared.answers.FetchAnswer.TheVariants as fetched
 use Rattle.wire.specs.declared.answers.InstallAnswer.TheVariants as installed
-use Rattle.wire.specs.declared.items.Item.TheVariants as item
 use Rattle.wire.specs.declared.requests.Request.{Request}
 use Rattle.wire.specs.declared.requests.Request.TheVariants as request
 use Rattle.session.specs.declared.fault.Fault.{Fault}

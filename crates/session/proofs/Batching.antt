@@ -3,7 +3,7 @@ use Rattle.std.specs.declared.alloc.Global.{Global}
 use Rattle.std.specs.declared.vec.Vec.{Vec}
 use Rattle.std.specs.Prelude.{slice_get}
 use Rattle.std.specs.List.{AllByRecursion}
-use Rattle.std.proofs.Common.{◌≡◌, ◌≢◌, ◌≤◌, ◌<◌, ◌+◌, ◌^◌, ℕ, List, [], ◌∷◌, ◌++◌, length, take, Option, Some, None, refl, sym, subst, ap, ◌∙◌, arith, length-append, append-nil}
+use Rattle.std.proofs.Common.{◌≡◌, ◌≢◌, ◌≤◌, ◌<◌, ◌+◌, ◌^◌, ℕ, List, [], ◌++◌, length, take, Some, refl, sym, subst, ap, ◌∙◌, arith, length-append, append-nil}
 use Rattle.sp_base.specs.declared.calls.Asked.{Asked}
 use Rattle.sp_base.specs.declared.numbers.TenantId.{TenantId}
 use Rattle.sp_base.specs.declared.limits.TheConstants.{MOST_PARKED}
@@ -20,16 +20,15 @@ use Rattle.wire.specs.declared.items.Item.{Item}
 use Rattle.wire.specs.declared.requests.Request.TheVariants as request
 use Rattle.session.specs.declared.plan.Begun.{Begun}
 use Rattle.session.specs.declared.plan.Plan.TheVariants as plan
-use Rattle.session.specs.declared.session.Admitted.{Admitted}
 use Rattle.session.specs.declared.session.Phase.{Phase}
 use Rattle.session.specs.declared.session.Phase.TheVariants as phase
 use Rattle.session.specs.declared.session.Session.{Session}
-use Rattle.session.specs.Batches.{AreFree, AreItems, CanBegin, IsRefusal, call_of}
+use Rattle.session.specs.Batches.{AreFree, AreItems, IsRefusal, call_of}
 use Rattle.session.specs.Seeing.{AllCounted}
 use Rattle.session.specs.Filling.{Fills}
-use Rattle.session.specs.Standing.{Awaits, EndHolds, Finishes, Fits, HasBegun, IsOpen, ItemsSoFar, Planned, Stands, handed_back, room_in, tenant_of, terms_over}
+use Rattle.session.specs.Standing.{Awaits, EndHolds, Finishes, Fits, HasBegun, IsOpen, ItemsSoFar, Planned, handed_back, room_in, tenant_of, terms_over}
 use Rattle.session.specs.Starting.{AllStart}
-use Rattle.session.specs.States.{State, Terms, seen_in_items}
+use Rattle.session.specs.States.{Terms, seen_in_items}
 use Rattle.session.proofs.Filling.{Filling, batch-told, filled-all, filling-at-first, fills-long, fills-show, refusals-show}
 use Rattle.session.proofs.Items.{all-map}
 use Rattle.session.proofs.LongerSteps.{can-begin-longer, fits-longer, items-longer}
@@ -129,11 +128,10 @@ one-so-far phase.Ended items others is are = absurd is
 pub batch-over : (old new : Session) (between : List ParkedCall) (now : Phase) → new ≡ record old { phase = now; parked = between; seen = new.seen }
     → now ≡ phase.Open → (between ≡ new.parked) × (new ≡ record old { phase = phase.Open; parked = new.parked; seen = new.seen })
 batch-over old new between now new_is opened =
-    let parked : between ≡ new.parked = sym (ap (λ (s : Session). s.parked) new_is) in
-    (
+    let parked : between ≡ new.parked = sym (ap (λ (s : Session). s.parked) new_is) in (
       parked,
       new_is ∙ ap (λ (p : Phase). let s : Session = record old { phase = p; parked = between; seen = new.seen } in s) opened
-      ∙ ap (λ (l : List ParkedCall). let s : Session = record old { phase = phase.Open; parked = l; seen = new.seen } in s) parked,
+          ∙ ap (λ (l : List ParkedCall). let s : Session = record old { phase = phase.Open; parked = l; seen = new.seen } in s) parked,
     )
 
 -- the calls of the batch have ended

@@ -1,7 +1,7 @@
 -- A record is told to the client of a parked call.
-use Rattle.std.specs.Prelude.{◌==◌, ◌≢◌, max, Bool, true, false, IsTrue, if◌then◌else◌}
+use Rattle.std.specs.Prelude.{◌==◌, Bool, true, false, IsTrue, if◌then◌else◌}
 use Rattle.std.specs.List.{AllByRecursion}
-use Rattle.std.proofs.Common.{◌≡◌, ◌≤◌, ◌<◌, ◌+◌, ◌*◌, ◌/◌, ◌⊎◌, ℕ, List, [], ◌∷◌, ◌++◌, length, take, Option, Some, None, refl, sym, subst, ap, ◌∙◌, inl, inr, arith, eq-eqb, length-append}
+use Rattle.std.proofs.Common.{◌≡◌, ◌≤◌, ◌<◌, ◌+◌, ◌*◌, ◌/◌, ◌⊎◌, ℕ, List, [], ◌∷◌, ◌++◌, length, Option, Some, None, refl, sym, subst, ap, ◌∙◌, inl, inr, arith, eq-eqb, length-append}
 use Rattle.std.proofs.lemmas.Bool.{eqb-true}
 use Rattle.std.proofs.Math.Nat.{le-div_iff_mul-le}
 use Rattle.std.proofs.Math.Seq.{take-length}
@@ -26,7 +26,6 @@ use Rattle.book.specs.Standing.{BookValue, StandsFor}
 use Rattle.book.specs.Verdict.{item_at}
 use Rattle.wire.specs.declared.answers.Answer.TheVariants as answer
 use Rattle.wire.specs.declared.answers.FetchAnswer.{FetchAnswer}
-use Rattle.wire.specs.declared.answers.FetchAnswer.TheVariants as fetched
 use Rattle.wire.specs.declared.requests.Request.TheVariants as request
 use Rattle.session.specs.declared.plan.Plan.TheVariants as plan
 use Rattle.session.specs.declared.session.Admitted.{Admitted}
@@ -39,7 +38,7 @@ use Rattle.session.specs.Standing.{AreKept, Fits, HasOwnRights, IsOpen, IsParked
 use Rattle.session.specs.States.{IsMap, Kept, State, after_answer, kept_of, seen_in_fetch, with_call, without}
 use Rattle.session.specs.Steps as steps
 use Rattle.session.specs.Steps.{IsFetchAnswer, IsGone, IsKept, IsNewRead, IsOther, with_read}
-use Rattle.session.proofs.Keeping.{HasKept, KeptSo, call-caller, kept-changed, kept-there, split, unlike, with-map, with-so, without-map, without-so}
+use Rattle.session.proofs.Keeping.{call-caller, kept-changed, kept-there, split, unlike, with-map, with-so, without-map, without-so}
 use Rattle.session.proofs.LongerSteps.{parked-fit-longer, rights-longer}
 use Rattle.session.proofs.Planning.{at-now, now-in, seen-by, stands-nil}
 
@@ -313,11 +312,10 @@ pub fetched-so : (old mid new : Session) (given : FetchAnswer) → mid ≡ recor
     → new ≡ record mid { seen = seen_in_fetch mid.seen given }
     → (mid.parked ≡ new.parked) × (new ≡ record old { parked = new.parked; seen = seen_in_fetch old.seen given })
 fetched-so old mid new given mid_is new_is =
-    let parked : mid.parked ≡ new.parked = sym (ap (λ (s : Session). s.parked) new_is) in
-    (
+    let parked : mid.parked ≡ new.parked = sym (ap (λ (s : Session). s.parked) new_is) in (
       parked,
       new_is ∙ ap (λ (s : Session). let t : Session = record s { seen = seen_in_fetch s.seen given } in t) mid_is
-      ∙ ap (λ (l : List ParkedCall). let t : Session = record old { parked = l; seen = seen_in_fetch old.seen given } in t) parked,
+          ∙ ap (λ (l : List ParkedCall). let t : Session = record old { parked = l; seen = seen_in_fetch old.seen given } in t) parked,
     )
 
 pub fetch-planned : (old new : Session) (book : BookValue) (journal : List Entry) (tenant : TenantId) (caller number : ℕ) (table : TableId) (key : List ℕ) (given : FetchAnswer)

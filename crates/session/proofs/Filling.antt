@@ -393,28 +393,28 @@ filled-one old terms tenant journal calls parked after items one given admitted 
     subst (λ (t : TenantId). ItemHolds terms.grants terms.limit terms.conf.policy journal old.seen (call_of t holds.asked) one.end) tenant_is holds.holds in
     elim (told-so terms journal tenant old.seen holds.asked one.end parked after (take one.place calls) given free holds_so told) [
       | stays same how sound has ↦ record {
-          each = λ state stands. set-items terms tenant journal state calls items one.place given (filling.each state stands)
-              (item-at old terms journal calls one tenant state given admitted stands holds how);
-          sound = all-set (IsSoundItem journal) items one.place given sound filling.sound;
-          places = λ k x found.
-              elim (get-set items one.place k given x found) [
-                | inl h ↦ record {
-                    asked = holds.asked;
-                    at = subst (λ (m : ℕ). slice_get calls m ≡ Some holds.asked) (sym h.0) holds.at;
-                    has = subst (λ (calls_parked : List ParkedCall). HasPlace calls_parked tenant journal (take k calls) holds.asked x) (sym same)
-                        (subst (λ (m : ℕ). HasPlace parked tenant journal (take m calls) holds.asked x) (sym h.0)
-                        (subst (λ (i : Item). HasPlace parked tenant journal (take one.place calls) holds.asked i) h.1 has));
-                  }
-                | inr h ↦ subst (λ (calls_parked : List ParkedCall). PlaceAt calls_parked tenant journal calls k x) (sym same) (filling.places k x h)
-              ];
-          others = λ caller.
-              elim (filling.others caller) [
-                | inl h ↦ inl (ap (λ (calls_parked : List ParkedCall). call_in calls_parked caller) same ∙ h)
-                | inr h ↦ inr (pushed-still calls items one.place given caller memory h)
-              ];
-          fit = subst (λ (calls_parked : List ParkedCall). ParkedFit old.admitted journal calls_parked) (sym same) filling.fit;
-          of_each = subst IsOfEach (sym same) filling.of_each;
-        }
+        each = λ state stands. set-items terms tenant journal state calls items one.place given (filling.each state stands)
+            (item-at old terms journal calls one tenant state given admitted stands holds how);
+        sound = all-set (IsSoundItem journal) items one.place given sound filling.sound;
+        places = λ k x found.
+            elim (get-set items one.place k given x found) [
+              | inl h ↦ record {
+                asked = holds.asked;
+                at = subst (λ (m : ℕ). slice_get calls m ≡ Some holds.asked) (sym h.0) holds.at;
+                has = subst (λ (calls_parked : List ParkedCall). HasPlace calls_parked tenant journal (take k calls) holds.asked x) (sym same)
+                    (subst (λ (m : ℕ). HasPlace parked tenant journal (take m calls) holds.asked x) (sym h.0)
+                    (subst (λ (i : Item). HasPlace parked tenant journal (take one.place calls) holds.asked i) h.1 has));
+              }
+              | inr h ↦ subst (λ (calls_parked : List ParkedCall). PlaceAt calls_parked tenant journal calls k x) (sym same) (filling.places k x h)
+            ];
+        others = λ caller.
+            elim (filling.others caller) [
+              | inl h ↦ inl (ap (λ (calls_parked : List ParkedCall). call_in calls_parked caller) same ∙ h)
+              | inr h ↦ inr (pushed-still calls items one.place given caller memory h)
+            ];
+        fit = subst (λ (calls_parked : List ParkedCall). ParkedFit old.admitted journal calls_parked) (sym same) filling.fit;
+        of_each = subst IsOfEach (sym same) filling.of_each;
+      }
       | hands load spent last grown is how sound pushed ↦
           let own : last.call ≡ call_of tenant holds.asked = pushed.handed.call_is in
           let number : last.call.caller.number ≡ holds.asked.caller = ap (λ (c : Call). c.caller.number) own in
@@ -566,13 +566,13 @@ where-shows all at before after items told one true there fills shows place n ou
     ap (λ (list : List Item). slice_get list place) (sym fills.2) ∙ found in
     elim (get-set items one.place place fills.0 (item.Committed n outcome) found_so) [
       | inl h ↦ record {
-          at = at;
-          one = one;
-          there = there;
-          place_is = sym h.0;
-          outcome = outcome;
-          end_is = committed-end before after one.end fills.0 n outcome fills.1 h.1;
-        }
+        at = at;
+        one = one;
+        there = there;
+        place_is = sym h.0;
+        outcome = outcome;
+        end_is = committed-end before after one.end fills.0 n outcome fills.1 h.1;
+      }
       | inr h ↦ shows place n outcome h
     ]
 where-shows all at before after items told one false there fills shows place n outcome found =
@@ -608,8 +608,7 @@ all-tell parked tenant journal [] (given ∷ items) many each = absurd (omega (a
 all-tell parked tenant journal (asked ∷ calls) [] many each = absurd (omega (arith, many))
 all-tell parked tenant journal (asked ∷ calls) (given ∷ items) many each =
     let first = each 0 given refl in
-    let same : asked ≡ first.0 = (let found = first.1 in cc) in
-    (
+    let same : asked ≡ first.0 = (let found = first.1 in cc) in (
       subst (λ (a : Asked). Tells parked tenant journal a given) (sym same) first.2,
       all-tell parked tenant journal calls items (omega (arith, many)) (λ k x found. each (suc k) x found),
     )

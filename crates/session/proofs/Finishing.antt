@@ -1,7 +1,7 @@
 -- A run that was taken is committed as the book does.
 use Rattle.std.specs.Prelude.{◌≢◌, ◌||◌, max, Bool, true, false, IsTrue, map, nat_le, nat_lt, slice_get, if◌then◌else◌}
 use Rattle.std.specs.List.{AllByRecursion, IsDistinct, list_any}
-use Rattle.std.proofs.Common.{◌≡◌, ◌≤◌, ◌<◌, ◌+◌, ◌^◌, ◌⊎◌, ℕ, List, [], ◌∷◌, ◌++◌, length, take, Option, Some, None, refl, sym, subst, ap, ◌∙◌, inl, inr, arith, length-append}
+use Rattle.std.proofs.Common.{◌≡◌, ◌≤◌, ◌+◌, ◌⊎◌, ℕ, List, [], ◌∷◌, ◌++◌, length, take, Option, Some, None, refl, sym, subst, ap, ◌∙◌, inl, inr, arith, length-append}
 use Rattle.std.proofs.lemmas.Bool.{ltb-true}
 use Rattle.sp_base.specs.declared.outcomes.Outcome.{Outcome}
 use Rattle.sp_base.specs.declared.outcomes.Outcome.TheVariants as outcomes
@@ -16,7 +16,7 @@ use Rattle.sp_base.specs.RightsList.{can_write}
 use Rattle.sp_base.specs.Spelling.{FitsChange, FitsOutcome, FitsWrite}
 use Rattle.ext_mean.specs.MeaningValues.{place_changed}
 use Rattle.ext_mean.specs.Outcomes.{ChangeFits, PutFits, ReplyFits}
-use Rattle.records.specs.GrantsList.{GrantsList, RightsList}
+use Rattle.records.specs.GrantsList.{GrantsList}
 use Rattle.rw_set.specs.declared.sent.Sent.{Sent}
 use Rattle.rw_set.specs.Sending.{is_done}
 use Rattle.task.specs.Extensions.{ExtValue}
@@ -37,10 +37,8 @@ use Rattle.parked.specs.declared.refused.Refused.{Refused}
 use Rattle.parked.specs.declared.refused.Refused.TheVariants as refused
 use Rattle.parked.specs.Taking.{changes_unfinished, foreign_in, refusal_of, stands_twice}
 use Rattle.wire.specs.declared.answers.Answer.TheVariants as answer
-use Rattle.wire.specs.declared.requests.Request.{Request}
 use Rattle.wire.specs.declared.requests.Request.TheVariants as request
 use Rattle.session.specs.declared.plan.Plan.TheVariants as plan
-use Rattle.session.specs.declared.session.Admitted.{Admitted}
 use Rattle.session.specs.declared.session.Session.{Session}
 use Rattle.session.specs.Batches.{commit_item}
 use Rattle.session.specs.Keeping.{Changes, call_in}
@@ -51,7 +49,7 @@ use Rattle.session.specs.States.{Kept, State, after_answer, seen_in_item, with_c
 use Rattle.session.specs.Steps as steps
 use Rattle.session.specs.Steps.{IsKept, IsSentVerdict, doubted_call}
 use Rattle.session.proofs.Items.{committed-by, conflict-by, moved-held}
-use Rattle.session.proofs.Keeping.{HasKept, call-beside, call-here, call-last, kept-changed, kept-there, split, with-map, with-so, without-map, without-so}
+use Rattle.session.proofs.Keeping.{call-beside, call-here, call-last, kept-changed, kept-there, split, with-map, with-so, without-map, without-so}
 use Rattle.session.proofs.Planning.{at-now, fits-so, now-in, stands-nil}
 
 -- ---- A run that was sent is not refused

@@ -1,7 +1,7 @@
 -- A call that is handed back belongs to the journal.
-use Rattle.std.specs.Prelude.{◌==◌, ◌||◌, ◌≢◌, Bool, true, false, IsTrue, nat_lt, slice_get}
+use Rattle.std.specs.Prelude.{◌==◌, IsTrue, slice_get}
 use Rattle.std.specs.List.{AllByRecursion}
-use Rattle.std.proofs.Common.{◌≡◌, ◌≤◌, ◌<◌, ◌+◌, ◌*◌, ℕ, zero, suc, List, [], ◌∷◌, ◌++◌, length, take, drop, min, Option, Some, None, refl, sym, subst, ap, ◌∙◌, arith, length-append}
+use Rattle.std.proofs.Common.{◌≡◌, ◌≤◌, ◌<◌, ◌*◌, ℕ, zero, suc, List, [], ◌∷◌, ◌++◌, length, take, drop, Option, Some, None, refl, sym, subst, ap, ◌∙◌, arith}
 use Rattle.std.proofs.lemmas.Bool.{eqb-true}
 use Rattle.std.proofs.lemmas.List.{length-take, take-append-drop, take-take}
 use Rattle.sp_base.specs.declared.calls.Call.{Call}
@@ -16,7 +16,7 @@ use Rattle.ext_mean.specs.declared.run.Run.{Run}
 use Rattle.ext_mean.specs.declared.run.Run.TheVariants as run
 use Rattle.ext_mean.specs.declared.tree.Program.{Program}
 use Rattle.ext_mean.specs.Asked.{AreAsked, IsWanted}
-use Rattle.ext_mean.specs.Laws.{IsWithin, place_in}
+use Rattle.ext_mean.specs.Laws.{IsWithin}
 use Rattle.ext_mean.specs.Meaning.{mean}
 use Rattle.ext_mean.specs.Views.{part, place_of}
 use Rattle.ext_mean.proofs.AskedProved.{reads-cost}

@@ -94,8 +94,7 @@ pub each-more : (parked : List ParkedCall) (last : ParkedCall) → IsOfEach park
     → IsOfEach (parked ++ last ∷ [])
 each-more [] last each none = (refl, tt)
 each-more (first ∷ others) last each none =
-    let differ : first.call.caller.number ≢ last.call.caller.number = none-first first others last.call.caller.number none in
-    (
+    let differ : first.call.caller.number ≢ last.call.caller.number = none-first first others last.call.caller.number none in (
       call-beside others last first.call.caller.number (λ same. differ (sym same)) ∙ each.0,
       each-more others last each.1 (none-rest first others last.call.caller.number none),
     )
@@ -167,7 +166,7 @@ set-each (first ∷ others) zero one now each found same =
     (ap (call_in others) (same ∙ ap (λ (p : ParkedCall). p.call.caller.number) (sym is)) ∙ each.0, each.1)
 set-each (first ∷ others) (suc place) one now each found same = (
   (set-changes others place one now each.1 found same).others first.call.caller.number
-  (at-behind first one others place each found) ∙ each.0,
+      (at-behind first one others place each found) ∙ each.0,
   set-each others place one now each.1 found same,
 )
 
@@ -177,7 +176,7 @@ remove-each [] place one each found = absurd cc
 remove-each (first ∷ others) zero one each found = each.1
 remove-each (first ∷ others) (suc place) one each found = (
   (remove-changes others place one each.1 found).others first.call.caller.number
-  (at-behind first one others place each found) ∙ each.0,
+      (at-behind first one others place each found) ∙ each.0,
   remove-each others place one each.1 found,
 )
 
@@ -476,7 +475,7 @@ pub kept-all-map : (parked : List ParkedCall) → IsOfEach parked → IsMap (kep
 kept-all-map [] each = tt
 kept-all-map (one ∷ others) each = (
   none-kept (call_in others one.call.caller.number) (kept_of (kept_all others) one.call.caller.number) each.0
-  (kept-all-are others one.call.caller.number) (all-certain others one.call.caller.number),
+      (kept-all-are others one.call.caller.number) (all-certain others one.call.caller.number),
   kept-all-map others each.1,
 )
 
@@ -579,8 +578,7 @@ pub removed : (parked after : List ParkedCall) (caller place : ℕ) → IsOfEach
     → Changes parked after caller None × IsOfEach after
 removed parked after caller place each stands is =
     let there = has-place parked caller place stands in
-    subst (λ (list : List ParkedCall). Changes parked list caller None × IsOfEach list) (sym is)
-    (
+    subst (λ (list : List ParkedCall). Changes parked list caller None × IsOfEach list) (sym is) (
       subst (λ (n : ℕ). Changes parked (remove parked place) n None) there.own (remove-changes parked place there.one each there.at),
       remove-each parked place there.one each there.at,
     )
@@ -594,10 +592,9 @@ replaced parked after caller place one now each stands found same is =
     let equal : there.one ≡ one = cc in
     let own : now.call.caller.number ≡ there.one.call.caller.number =
     ap (λ (call : Call). call.caller.number) same ∙ ap (λ (p : ParkedCall). p.call.caller.number) (sym equal) in
-    subst (λ (list : List ParkedCall). Changes parked list caller (Some now) × IsOfEach list) (sym is)
-    (
+    subst (λ (list : List ParkedCall). Changes parked list caller (Some now) × IsOfEach list) (sym is) (
       subst (λ (n : ℕ). Changes parked (slice_set parked place now) n (Some now)) there.own
-      (set-changes parked place there.one now each there.at own),
+          (set-changes parked place there.one now each there.at own),
       set-each parked place there.one now each there.at own,
     )
 

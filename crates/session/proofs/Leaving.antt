@@ -1,6 +1,6 @@
 -- What is kept behind the items of a batch, and that it matches the calls that are parked then.
-use Rattle.std.specs.Prelude.{◌==◌, ◌≢◌, Bool, true, false, IsTrue, slice_get}
-use Rattle.std.proofs.Common.{◌≡◌, ◌≤◌, ◌<◌, ◌⊎◌, ℕ, zero, suc, List, [], ◌∷◌, ◌++◌, length, take, Option, Some, None, refl, sym, subst, ap, ◌∙◌, inl, inr, arith}
+use Rattle.std.specs.Prelude.{◌==◌, ◌≢◌, false, IsTrue}
+use Rattle.std.proofs.Common.{◌≡◌, ◌≤◌, ◌⊎◌, ℕ, List, [], ◌∷◌, ◌++◌, length, take, Option, Some, None, refl, sym, subst, ap, ◌∙◌, inl, inr, arith}
 use Rattle.std.proofs.lemmas.Bool.{eqb-true}
 use Rattle.sp_base.specs.declared.calls.Asked.{Asked}
 use Rattle.sp_base.specs.declared.limits.TheConstants.{MOST_PARKED}
@@ -16,7 +16,7 @@ use Rattle.session.specs.Batches.{AllLeave, Leaves, call_of}
 use Rattle.session.specs.Keeping.{call_in}
 use Rattle.session.specs.Standing.{AreKept, Matches}
 use Rattle.session.specs.States.{IsMap, Kept, kept_of, without, without_doubtful}
-use Rattle.session.proofs.Keeping.{Covers, IsFreeOf, KeptSo, doubtful-map, doubtful-so, few-kept, kept-more-map, kept-more-so, split, unlike, without-map, without-so}
+use Rattle.session.proofs.Keeping.{Covers, IsFreeOf, doubtful-map, doubtful-so, few-kept, kept-more-map, kept-more-so, split, unlike, without-map, without-so}
 
 -- ---- What each item says of the calls that are parked
 
@@ -116,7 +116,7 @@ match-behind : (parked : List ParkedCall) (kept : List Kept) (asked : Asked) (gi
 match-behind parked kept asked given calls items stays match_all caller =
     elim (match_all caller) [
       | inl h ↦ inl h
-      | inr h ↦ elim h [ | inl here ↦ absurd (stays here.0) | inr behind ↦ inr behind ]
+      | inr h ↦ elim h [ inl here ↦ absurd (stays here.0) | inr behind ↦ inr behind ]
     ]
 
 as-it-was : (parked : List ParkedCall) (journal : List Entry) (tenant : TenantId) (kept : List Kept) (asked : Asked) (given : Item) (calls : List Asked) (items : List Item)
@@ -190,7 +190,7 @@ kept-too parked journal tenant kept asked load spent reads calls items few hande
     let differ : caller ≢ asked.caller = unlike caller asked.caller fails in
     elim (match_all caller) [
       | inl h ↦ inl (subst (λ (k : Option Kept). Matches (call_in parked caller) k) (sym (so.others caller differ ∙ gone.others caller differ)) h)
-      | inr h ↦ elim h [ | inl here ↦ absurd (differ (sym here.1)) | inr later ↦ inr later ]
+      | inr h ↦ elim h [ inl here ↦ absurd (differ (sym here.1)) | inr later ↦ inr later ]
     ])) in
     record {
       after = front ++ last ∷ [];
@@ -255,7 +255,7 @@ left-behind parked journal tenant kept [] [] few tell map match_all = record {
   after = kept;
   leave = refl;
   map = map;
-  kept_so = λ caller. elim (match_all caller) [ | inl h ↦ h | inr h ↦ absurd h ];
+  kept_so = λ caller. elim (match_all caller) [ inl h ↦ h | inr h ↦ absurd h ];
 }
 left-behind parked journal tenant kept [] (given ∷ items) few tell map match_all = absurd tell
 left-behind parked journal tenant kept (asked ∷ calls) [] few tell map match_all = absurd tell

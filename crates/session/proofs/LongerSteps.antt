@@ -2,7 +2,7 @@
 use Rattle.std.specs.List.{AllByRecursion}
 use Rattle.std.proofs.lemmas.List.{take-append-le}
 use Rattle.std.specs.Prelude.{◌==◌, Bool, true, false, slice_get, if◌then◌else◌}
-use Rattle.std.proofs.Common.{◌≡◌, ◌≤◌, ◌<◌, ℕ, List, [], ◌∷◌, ◌++◌, length, take, Option, Some, None, refl, sym, subst, ap, ◌∙◌, arith, length-append}
+use Rattle.std.proofs.Common.{◌≡◌, ◌≤◌, ℕ, List, [], ◌∷◌, ◌++◌, length, take, Option, Some, None, refl, sym, subst, ap, ◌∙◌, arith, length-append}
 use Rattle.sp_base.specs.declared.calls.Asked.{Asked}
 use Rattle.sp_base.specs.declared.calls.Call.{Call}
 use Rattle.sp_base.specs.declared.numbers.TableId.{TableId}
@@ -26,7 +26,7 @@ use Rattle.book.specs.declared.answers.Install.{Install}
 use Rattle.book.specs.declared.answers.Install.TheVariants as install
 use Rattle.book.specs.declared.answers.Put.{Put}
 use Rattle.book.specs.declared.answers.Put.TheVariants as put
-use Rattle.book.specs.Ends.{IsShown, NamesExt, moment_of}
+use Rattle.book.specs.Ends.{NamesExt, moment_of}
 use Rattle.book.specs.Verdict.{install_answer, item_at, put_answer, verdict}
 use Rattle.wire.specs.declared.answers.Answer.{Answer}
 use Rattle.wire.specs.declared.answers.FetchAnswer.{FetchAnswer}

@@ -1,5 +1,5 @@
 -- What a plan that sends an answer, or ends the session, owes.
-use Rattle.std.proofs.Common.{◌≡◌, ◌≤◌, ◌⊎◌, ℕ, List, [], ◌++◌, length, take, Option, Some, None, refl, sym, subst, ap, ◌∙◌, inl, inr, arith, length-append, append-nil}
+use Rattle.std.proofs.Common.{◌≡◌, ◌≤◌, ℕ, List, [], ◌++◌, length, take, Option, Some, refl, sym, subst, ap, ◌∙◌, arith, length-append, append-nil}
 use Rattle.std.proofs.Math.Seq.{take-append_seam}
 use Rattle.sp_base.specs.declared.limits.TheConstants.{MOST_PARKED}
 use Rattle.records.specs.GrantsList.{GrantsList}

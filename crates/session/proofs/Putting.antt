@@ -1,6 +1,6 @@
 -- A put, and an installation, as the book answers them.
 use Rattle.std.specs.Prelude.{max, Bool, true, false, slice_get, if◌then◌else◌}
-use Rattle.std.proofs.Common.{◌≡◌, ◌≤◌, ◌+◌, ◌⊎◌, ℕ, suc, List, [], ◌∷◌, ◌++◌, length, Some, refl, sym, subst, ap, ◌∙◌, inl, inr, arith, length-append, append-nil}
+use Rattle.std.proofs.Common.{◌≡◌, ◌+◌, ◌⊎◌, ℕ, List, [], ◌∷◌, ◌++◌, length, Some, refl, sym, subst, ap, ◌∙◌, inl, inr, arith, length-append}
 use Rattle.sp_base.specs.declared.numbers.ExtNo.{ExtNo}
 use Rattle.sp_base.specs.declared.numbers.TableId.{TableId}
 use Rattle.sp_base.specs.declared.numbers.TenantId.{TenantId}
@@ -24,7 +24,7 @@ use Rattle.session.specs.declared.plan.Plan.TheVariants as plan
 use Rattle.session.specs.declared.session.Session.{Session}
 use Rattle.session.specs.Seeing.{install_seen, put_seen}
 use Rattle.session.specs.Standing.{Explains, Fits, IsOpen, Planned, Stands, tenant_of, terms_over}
-use Rattle.session.specs.States.{State, after_answer, seen_in_install, seen_in_put}
+use Rattle.session.specs.States.{after_answer, seen_in_install, seen_in_put}
 use Rattle.session.specs.Steps as steps
 use Rattle.session.specs.Steps.{InstallStands, PutStands, install_told, put_told}
 use Rattle.session.proofs.Planning.{at-now, now-in, seen-by, sends, stands-after, stands-nil, stands-still}

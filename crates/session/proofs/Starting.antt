@@ -1,7 +1,7 @@
 -- The calls of a batch begin, one after another.
-use Rattle.std.specs.Prelude.{◌==◌, ◌||◌, Bool, true, false, IsTrue, slice_get, map, if◌then◌else◌}
+use Rattle.std.specs.Prelude.{◌==◌, ◌||◌, Bool, true, false, IsTrue, slice_get, map}
 use Rattle.std.specs.List.{AllByRecursion, list_any}
-use Rattle.std.proofs.Common.{◌≡◌, ◌≤◌, ◌<◌, ◌+◌, ◌⊎◌, ℕ, zero, suc, List, [], ◌∷◌, ◌++◌, length, take, Option, Some, None, refl, sym, subst, ap, ◌∙◌, inl, inr, arith, length-append}
+use Rattle.std.proofs.Common.{◌≡◌, ◌≤◌, ℕ, zero, suc, List, [], ◌∷◌, ◌++◌, length, take, Option, Some, None, refl, sym, subst, ap, ◌∙◌, inl, inr, arith, length-append}
 use Rattle.std.proofs.Math.Seq.{take-append_seam, take-length}
 use Rattle.std.proofs.lemmas.List.{take-append-le}
 use Rattle.std.proofs.lemmas.Option.{slice_get_within}
@@ -16,7 +16,7 @@ use Rattle.journal.proofs.Versions.{slice_get-append_seam}
 use Rattle.task.specs.Extensions.{ExtValue}
 use Rattle.task.specs.Parking.{ParkedCall}
 use Rattle.task.specs.Turning.{Live, begun}
-use Rattle.book.specs.Ends.{IsShown, NamesExt}
+use Rattle.book.specs.Ends.{IsShown}
 use Rattle.book.specs.Standing.{BookValue}
 use Rattle.wire.specs.declared.items.Item.{Item}
 use Rattle.wire.specs.declared.items.Item.TheVariants as item
@@ -28,7 +28,7 @@ use Rattle.session.specs.Batches as batches
 use Rattle.session.specs.Batches.{AreFree, AreItems, CanBegin, IsAlone, IsFree, IsFreeAt, IsFreeBut, IsItemAt, IsItemOf, IsRefusal, IsUnparked, call_of, is_among, is_bad_budget}
 use Rattle.session.specs.Keeping.{call_in}
 use Rattle.session.specs.Standing.{Fits, HasBegun, Stands, tenant_of, terms_over}
-use Rattle.session.specs.Starting.{AllStart, IsBegun, IsRefused, Starts, begun_with, caller_of, item_so_far}
+use Rattle.session.specs.Starting.{AllStart, Starts, begun_with, caller_of, item_so_far}
 use Rattle.session.specs.States.{Kept, State, kept_of}
 use Rattle.session.proofs.Keeping.{free-of, kept-there}
 use Rattle.session.proofs.Longer.{found-longer}

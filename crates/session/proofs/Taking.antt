@@ -1,10 +1,9 @@
 -- What a client sends as the end of its call is taken, or refused.
 use Rattle.std.specs.Prelude.{◌==◌, ◌≢◌, Bool, true, false, IsTrue, map, nat_lt, if◌then◌else◌}
 use Rattle.std.specs.List.{AllByRecursion}
-use Rattle.std.proofs.Common.{◌≡◌, ◌≤◌, ◌<◌, ℕ, List, [], ◌∷◌, ◌++◌, length, Option, Some, None, refl, sym, subst, ap, ◌∙◌, arith}
+use Rattle.std.proofs.Common.{◌≡◌, ◌<◌, ℕ, List, [], ◌∷◌, ◌++◌, length, Option, Some, None, refl, sym, subst, ap, ◌∙◌, arith}
 use Rattle.std.proofs.lemmas.Bool.{eqb-true}
 use Rattle.sp_base.specs.declared.calls.Call.{Call}
-use Rattle.sp_base.specs.declared.limits.TheConstants.{MOST_PARKED}
 use Rattle.sp_base.specs.declared.numbers.CallNo.{CallNo}
 use Rattle.sp_base.specs.declared.numbers.TableId.{TableId}
 use Rattle.sp_base.specs.declared.numbers.TenantId.{TenantId}
@@ -22,7 +21,6 @@ use Rattle.journal.specs.declared.entry.Entry.{Entry}
 use Rattle.journal.specs.Granted.{granted}
 use Rattle.journal.specs.Legal.{Names}
 use Rattle.journal.specs.Reads.{IsHeld}
-use Rattle.book.specs.Ends.{IsShown}
 use Rattle.book.specs.Standing.{IsTrueTo}
 use Rattle.parked.specs.declared.finish.Finish.{Finish}
 use Rattle.parked.specs.declared.refused.Refused.{Refused}
@@ -30,9 +28,7 @@ use Rattle.parked.specs.declared.refused.Refused.TheVariants as refused
 use Rattle.parked.specs.Taking.{changes_unfinished, foreign_in, refusal_of, stands_twice}
 use Rattle.wire.specs.Answers.{IsIn}
 use Rattle.wire.specs.declared.answers.Answer.TheVariants as answer
-use Rattle.wire.specs.declared.items.Item.{Item}
 use Rattle.wire.specs.declared.items.Item.TheVariants as item
-use Rattle.wire.specs.declared.requests.Request.{Request}
 use Rattle.wire.specs.declared.requests.Request.TheVariants as request
 use Rattle.session.specs.declared.plan.Ask.TheVariants as ask
 use Rattle.session.specs.declared.session.Admitted.{Admitted}
@@ -188,8 +184,7 @@ still-with old new state caller one sent was own seen found changes call_is read
     let same : last ≡ one =
     ap (λ (c : Call). let p : ParkedCall = record { call = c; ext = one.ext; reads = sent.reads } in p) call_is
     ∙ ap (λ (r : List ReadItem). let p : ParkedCall = record { call = one.call; ext = one.ext; reads = r } in p) reads_is in
-    let number : last.call.caller.number ≡ caller = ap (λ (p : ParkedCall). p.call.caller.number) same ∙ call-caller old.parked caller one found in
-    (
+    let number : last.call.caller.number ≡ caller = ap (λ (p : ParkedCall). p.call.caller.number) same ∙ call-caller old.parked caller one found in (
       one.ext,
       record {
         tenant = was.tenant ∙ ap tenant_of (sym own);

@@ -1,5 +1,5 @@
 -- Texts, and the first message.
-use Rattle.std.specs.Prelude.{max, IsTrue, true, false, slice_get}
+use Rattle.std.specs.Prelude.{max, IsTrue, slice_get}
 use Rattle.std.proofs.Common.{◌≡◌, ◌≤◌, ◌⊎◌, ℕ, zero, suc, List, [], ◌∷◌, ◌++◌, length, take, Option, Some, None, refl, sym, subst, ap, ◌∙◌, inl, inr, arith, length-append}
 use Rattle.std.proofs.Math.Seq.{take-length}
 use Rattle.sp_base.specs.declared.numbers.TenantId.{TenantId}
@@ -24,7 +24,7 @@ use Rattle.session.specs.States.{after_answer, knows, seen_in_text}
 use Rattle.session.specs.Steps as steps
 use Rattle.session.specs.Steps.{IsTextAnswer}
 use Rattle.session.proofs.LongerSteps.{text-longer}
-use Rattle.session.proofs.Planning.{at-now, now-in, seen-by, sends, stands-after, stands-nil, stays-fixed}
+use Rattle.session.proofs.Planning.{at-now, seen-by, sends, stands-after, stands-nil, stays-fixed}
 
 -- the moment of a journal is shown by itself
 pub now-shown : (journal : List Entry) (seen : ℕ) → seen ≤ length journal → IsShown journal seen (length journal)

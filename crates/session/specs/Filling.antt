@@ -1,5 +1,5 @@
 -- How the items of a batch are filled in as its calls end, and which calls are parked then.
-use Rattle.std.specs.Prelude.{◌≡◌, ◌⊎◌, Bool, true, false, List, [], ◌∷◌, ◌++◌, Option, Some, None, slice_get, slice_set}
+use Rattle.std.specs.Prelude.{◌≡◌, ◌⊎◌, Bool, true, false, List, [], ◌∷◌, ◌++◌, Option, Some, slice_get, slice_set}
 use Rattle.rw_set.specs.ReadLists.{IsReadList}
 use Rattle.task.specs.Parking.{ParkedCall}
 use Rattle.book.specs.declared.ends.CallEnd.{CallEnd}

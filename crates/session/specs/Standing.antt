@@ -24,7 +24,7 @@ use Rattle.book.specs.declared.ends.CallEnd.{CallEnd}
 use Rattle.book.specs.declared.ends.End.{End}
 use Rattle.book.specs.declared.ends.End.TheVariants as ended
 use Rattle.book.specs.Ends.{ItemHolds, NamesExt}
-use Rattle.book.specs.Standing.{BookValue, SentOn, StandsFor}
+use Rattle.book.specs.Standing.{BookValue, StandsFor}
 use Rattle.wire.specs.declared.answers.Answer.{Answer}
 use Rattle.wire.specs.declared.answers.Answer.TheVariants as answer
 use Rattle.wire.specs.declared.answers.FetchAnswer.TheVariants as fetched

@@ -53,13 +53,7 @@ fn reads_told(alloc: Global, parked: &Parked) -> Result<Reads, Memory>
 }
 
 /// Parks a call that is handed back. One for which there is no memory is not.
-fn hand_back(
-    alloc: Global,
-    calls: &mut ParkedCalls,
-    load: u32,
-    spent: u32,
-    parked: Parked,
-) -> Item
+fn hand_back(alloc: Global, calls: &mut ParkedCalls, load: u32, spent: u32, parked: Parked) -> Item
     ensures { IsToldAs calls.old calls.new (End.Pushed load spent parked) result }
 {
     let Ok(reads) = reads_told(alloc, &parked) else {

@@ -1,14 +1,14 @@
 -- A call is refused by the first rule that applies, or begins.
-use Rattle.std.proofs.Common.{ℕ, List, sym, subst, ap, ◌∙◌}
+use Rattle.std.proofs.Common.{sym, subst, ap, ◌∙◌}
 use Rattle.std.specs.Arc.{arc_value}
 use Rattle.sp_base.specs.declared.calls.Call.{Call}
 use Rattle.ext_check.specs.Checking.{IsAccepted}
 use Rattle.records.specs.GrantsList.{RightsList}
 use Rattle.task.specs.Extensions.{ExtValue}
-use Rattle.task.specs.Turning.{Live, begun}
+use Rattle.task.specs.Turning.{begun}
 use Rattle.wire.specs.declared.items.Item.TheVariants as item
 use Rattle.session.specs.declared.batch.Start.TheVariants as start
-use Rattle.session.specs.Batches.{IsUnparked, call_of}
+use Rattle.session.specs.Batches.{call_of}
 use Rattle.session.specs.Starting.{Starts}
 use Rattle.session.proofs.Starting.{among-is, starts-absent, starts-bad, starts-begun, starts-busy, starts-memory, starts-repeated, unparked-so}
 use Rattle.session.proofs.batch.begin_one.Goals as goal

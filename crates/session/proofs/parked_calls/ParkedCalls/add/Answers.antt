@@ -1,7 +1,6 @@
 -- The read joins those of the call.
 use Rattle.std.specs.Prelude.{slice_set}
 use Rattle.std.proofs.Common.{◌≡◌, List, Some, refl, ap, sym, subst, ◌∙◌}
-use Rattle.sp_base.specs.declared.calls.Call.{Call}
 use Rattle.task.specs.Parking.{ParkedCall}
 use Rattle.session.specs.Keeping.{Changes, StandsAt, call_in, joined}
 use Rattle.session.proofs.Keeping.{rewritten}

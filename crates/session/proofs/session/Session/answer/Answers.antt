@@ -1,6 +1,5 @@
 -- Each ask is answered by its kind.
-use Rattle.std.proofs.Common.{Bool, Option, Some, sym, subst, ap, ◌∙◌}
-use Rattle.sp_base.specs.declared.numbers.TenantId.{TenantId}
+use Rattle.std.proofs.Common.{Bool, sym, subst}
 use Rattle.wire.specs.Requests.{FitsRequest}
 use Rattle.session.specs.declared.plan.Ask.{Ask}
 use Rattle.session.specs.Sending.{SentFits}

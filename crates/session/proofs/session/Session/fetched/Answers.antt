@@ -1,12 +1,12 @@
 -- A record is told by the first rule that applies.
-use Rattle.std.proofs.Common.{◌≡◌, ◌<◌, ◌≤◌, ◌/◌, ℕ, Some, length, refl, sym, ap, ◌∙◌}
+use Rattle.std.proofs.Common.{◌/◌, length, refl, sym, ap, ◌∙◌}
 use Rattle.std.proofs.lemmas.Bool.{leb-false, leb-true}
 use Rattle.sp_base.specs.declared.calls.Call.{Call}
 use Rattle.sp_base.specs.RightsList.{can_read}
 use Rattle.journal.specs.Granted.{granted}
 use Rattle.book.specs.Verdict.{item_at}
 use Rattle.session.specs.Fetching as fetching
-use Rattle.session.specs.Keeping.{call_in, has_number}
+use Rattle.session.specs.Keeping.{has_number}
 use Rattle.session.proofs.Fetching.{found-told, join-told, may-join, other-number, parked-paid, read-denied, read-found, unpaid}
 use Rattle.session.proofs.Keeping.{apart}
 use Rattle.session.proofs.session.Session.fetched.Goals as goal
@@ -92,10 +92,9 @@ join-requires-clause-joins c =
     let paid = parked-paid c.args.self.now.admitted journal c.args.tenant c.args.self.now.parked c.args.caller c.in-Some.parked.now
     c.requires.admitted (c.requires.fits journal stands).parked found in
     let read = read-found (can_read (granted c.args.book.now.grants journal c.args.tenant) c.args.table.0) c.in-Found.item
-    (item_at journal c.args.table c.args.key.now) (c.in-Found.ensures.answer journal stands) in
-    (
+    (item_at journal c.args.table c.args.key.now) (c.in-Found.ensures.answer journal stands) in (
       c.in-Some.parked.now,
       found,
       may-join c.in-Some.parked.now c.in-Found.item journal c.args.table c.args.key.now (sym c.in_default-read_before.ensures.found) read.1
-      (leb-false (c.in-Some.parked.now.call.budget / 16) (length c.in-Some.parked.now.reads) (sym c.has_all_reads-full.ensures ∙ c.if-full.false)) paid.0,
+          (leb-false (c.in-Some.parked.now.call.budget / 16) (length c.in-Some.parked.now.reads) (sym c.has_all_reads-full.ensures ∙ c.if-full.false)) paid.0,
     )

@@ -1,9 +1,8 @@
 -- The items are filled in, and answer the batch.
-use Rattle.std.proofs.Common.{◌≡◌, List, refl, sym, subst, ap, ◌∙◌}
+use Rattle.std.proofs.Common.{List, refl, sym, subst, ◌∙◌}
 use Rattle.task.specs.Parking.{ParkedCall}
 use Rattle.wire.specs.declared.answers.Answer.{Answer}
 use Rattle.session.specs.declared.session.Phase.{Phase}
-use Rattle.session.specs.declared.session.Session.{Session}
 use Rattle.session.specs.Filling.{Fills}
 use Rattle.session.specs.Standing.{Finishes, ItemsSoFar}
 use Rattle.session.proofs.Batching.{batch-finishes, batch-over}

@@ -5,7 +5,6 @@ use Rattle.wire.specs.declared.answers.Answer.{Answer}
 use Rattle.wire.specs.declared.answers.Answer.TheVariants as answer
 use Rattle.wire.specs.declared.items.Item.{Item}
 use Rattle.wire.specs.declared.requests.Request.TheVariants as request
-use Rattle.session.specs.declared.session.Session.{Session}
 use Rattle.session.specs.Standing.{Refused, tenant_of}
 use Rattle.session.proofs.Asking.{refused-by-fault}
 use Rattle.session.proofs.Taking.{take-asks, take-memory, take-not-parked, take-refused}
