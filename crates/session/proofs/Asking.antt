@@ -1,8 +1,6 @@
--- Requests that are answered without the book, and those whose calls are not parked.
-use Rattle.std.specs.Prelude.{◌==◌, not, Bool, true, false, IsTrue, is_some, if◌then◌else◌}
-use Rattle.std.proofs.Common.{◌≡◌, ◌≤◌, ℕ, List, [], ◌∷◌, ◌++◌, length, Option, Some, None, refl, sym, subst, ap, ◌∙◌, arith, eq-eqb, length-append, append-nil}
-use Rattle.std.proofs.lemmas.Bool.{eqb-true}
-use Rattle.sp_base.specs.declared.numbers.TableId.{TableId}
+-- Requests that are answered without the book, and sessions that end.
+use Rattle.std.specs.Prelude.{not, true, false, is_some}
+use Rattle.std.proofs.Common.{◌≡◌, ℕ, List, [], ◌++◌, Option, Some, None, refl, sym, subst, ap, ◌∙◌, arith, length-append, append-nil}
 use Rattle.sp_base.specs.declared.numbers.TenantId.{TenantId}
 use Rattle.sp_base.specs.declared.outcomes.Outcome.{Outcome}
 use Rattle.sp_base.specs.declared.writes.Write.{Write}
@@ -13,14 +11,12 @@ use Rattle.ext_mean.specs.declared.refusal.Refusal.{Refusal}
 use Rattle.ext_mean.specs.declared.refusal.Refusal.TheVariants as refusal
 use Rattle.ext_mean.specs.Refusals.{refusal_number}
 use Rattle.ext_check.specs.Checking.{IsRefused}
+use Rattle.records.specs.GrantsList.{GrantsList}
 use Rattle.journal.specs.declared.entry.Entry.{Entry}
 use Rattle.book.specs.Standing.{BookValue, StandsFor}
 use Rattle.wire.specs.Answers.{IsIn}
-use Rattle.wire.specs.declared.answers.Answer.{Answer}
 use Rattle.wire.specs.declared.answers.Answer.TheVariants as answer
-use Rattle.wire.specs.declared.answers.FetchAnswer.TheVariants as fetched
 use Rattle.wire.specs.declared.answers.InstallAnswer.TheVariants as installed
-use Rattle.wire.specs.declared.items.Item.TheVariants as item
 use Rattle.wire.specs.declared.requests.Request.{Request}
 use Rattle.wire.specs.declared.requests.Request.TheVariants as request
 use Rattle.session.specs.declared.fault.Fault.{Fault}
@@ -30,12 +26,11 @@ use Rattle.session.specs.declared.plan.Plan.TheVariants as plan
 use Rattle.session.specs.declared.session.Admitted.{Admitted}
 use Rattle.session.specs.declared.session.Phase.TheVariants as phase
 use Rattle.session.specs.declared.session.Session.{Session}
-use Rattle.session.specs.Standing.{AreKept, Asks, Fits, HasOwnRights, IsOpen, IsPlain, IsWithin, Planned, Refused, Stands, tenant_of, terms_over}
-use Rattle.session.specs.States.{Kept, State, after_answer, is_of, kept_of, without}
+use Rattle.session.specs.Standing.{Asks, Fits, IsOpen, IsPlain, IsWithin, Planned, Refused, Stands, tenant_of, terms_over}
+use Rattle.session.specs.States.{State}
 use Rattle.session.specs.Steps as steps
-use Rattle.session.specs.Steps.{IsGone, IsOther, faulted, is_hello, is_in_turn}
-use Rattle.session.proofs.Planning.{sends, stands-nil, stands-still, stays-fixed, stops}
-use Rattle.session.proofs.LongerSteps.{rights-longer}
+use Rattle.session.specs.Steps.{faulted, is_hello, is_in_turn}
+use Rattle.session.proofs.Planning.{fits-so, stands-nil, stands-still, stops}
 
 -- ---- Tenants
 
@@ -80,23 +75,28 @@ fault-in fault.OutOfTurn = record { low = omega arith; high = omega arith }
 fault-in fault.WrongKey = record { low = omega arith; high = omega arith }
 fault-in fault.Memory = record { low = omega arith; high = omega arith }
 
+-- the session fits what it fitted
+pub fits-here : (old new : Session) (journal : List Entry) (grants : GrantsList) → Fits old journal grants → new.admitted ≡ old.admitted
+    → new.parked ≡ old.parked → new.seen ≡ old.seen → Fits new journal grants
+fits-here old new journal grants fits own parked seen =
+    subst (λ (j : List Entry). Fits new j grants) (append-nil journal)
+    (fits-so old new journal [] grants fits own parked (omega (arith, seen, fits.seen, length-append journal [])))
+
 -- what is refused by a fault ends the session
 pub refused-by-fault : (old new : Session) (message : Request) → tenant_of old.admitted ≡ None → is_hello message ≡ false
     → new ≡ record old { phase = phase.Ended } → Refused old new message (faulted fault.OutOfTurn)
 refused-by-fault old new message none is new_is =
     let own : new.admitted ≡ old.admitted = ap (λ (s : Session). s.admitted) new_is in
+    let parked : new.parked ≡ old.parked = ap (λ (s : Session). s.parked) new_is in
     let seen : new.seen ≡ old.seen = ap (λ (s : Session). s.seen) new_is in
     record {
       explained = λ grants limit journal fits state was. record {
         next = state;
         step = steps.out_of_turn message (out-of-turn old state message was none is);
-        stands = stands-still old new state was own seen;
+        stands = stands-still old new state was own parked seen;
       };
       ends = ap (λ (s : Session). s.phase) new_is;
-      fits = λ journal grants fits. record {
-        rights = subst (λ (admitted : Option Admitted). HasOwnRights admitted journal grants) (sym own) fits.rights;
-        seen = omega (arith, seen, fits.seen);
-      };
+      fits = λ journal grants fits. fits-here old new journal grants fits own parked seen;
       within = fault-in fault.OutOfTurn;
       conf = ap (λ (s : Session). s.conf) new_is;
     }
@@ -150,104 +150,31 @@ refused-memory old tenant text ready admitted = record {
   conf = refl;
 }
 
-pub asks-plain : (session : Session) (message : Request) → ((text : List ℕ) → message ≡ request.Install text → ⊥)
-    → ((caller number : ℕ) (outcome : Outcome) (writes : List Write) → message ≡ request.Finish caller (record { 0 = number }) outcome writes → ⊥)
-    → Asks session message (ask.Plain message)
-asks-plain session (request.Hello tenant secret) no_install no_finish = record { stands_for = refl; asked = tt }
-asks-plain session (request.Install text) no_install no_finish = absurd (no_install text refl)
-asks-plain session (request.Batch calls) no_install no_finish = record { stands_for = refl; asked = tt }
-asks-plain session (request.Fetch caller number table key) no_install no_finish = record { stands_for = refl; asked = tt }
-asks-plain session (request.Finish caller number outcome writes) no_install no_finish = absurd (no_finish caller number.0 outcome writes refl)
-asks-plain session (request.Put table key value) no_install no_finish = record { stands_for = refl; asked = tt }
-asks-plain session (request.TextOf ext) no_install no_finish = record { stands_for = refl; asked = tt }
-asks-plain session request.Bye no_install no_finish = record { stands_for = refl; asked = tt }
-
--- ---- Calls that are not parked
-
--- where no call is parked, each that is kept is doubtful
-kept-doubtful-by : (first : Kept) (others : List Kept) (caller : ℕ) (one : Kept) (same : Bool) → IsTrue first.doubtful
-    → (kept_of others caller ≡ Some one → IsTrue one.doubtful)
-    → (if same then Some first else kept_of others caller) ≡ Some one → IsTrue one.doubtful
-kept-doubtful-by first others caller one true doubtful rest found = let is : first ≡ one = cc in subst (λ (k : Kept). IsTrue k.doubtful) is doubtful
-kept-doubtful-by first others caller one false doubtful rest found = rest found
-
-kept-doubtful : (kept : List Kept) (caller : ℕ) (one : Kept) → AreKept [] kept → kept_of kept caller ≡ Some one → IsTrue one.doubtful
-kept-doubtful [] caller one are found = absurd cc
-kept-doubtful (first ∷ others) caller one are found =
-    kept-doubtful-by first others caller one (is_of caller first) are.0 (λ rest. kept-doubtful others caller one are.1 rest) found
-
-without-kept : (kept : List Kept) (caller : ℕ) → AreKept [] kept → AreKept [] (without kept caller)
-without-kept [] caller are = refl
-without-kept (one ∷ others) caller are =
-    elim (is_of caller one) as
-    (λ (gone : Bool). AreKept [] (if gone then without others caller else one ∷ without others caller)) [
-      | true ↦ without-kept others caller are.1
-      | false ↦ (are.0, without-kept others caller are.1)
-    ]
-
--- the call is not parked, and what is kept then
-pub record IsLost (state : State) (caller number : ℕ) : Type 0 where
-  pub left : List Kept
-  pub gone : IsGone state caller number left
-  pub kept_so : AreKept [] left
-
-lost-at : (state : State) (caller number : ℕ) (one : Kept) (same : Bool) → (one.parked.call.number.0 == number) ≡ same
-    → kept_of state.kept caller ≡ Some one → IsTrue one.doubtful → AreKept [] state.kept → IsLost state caller number
-lost-at state caller number one true is found doubtful are = record {
-  left = without state.kept caller;
-  gone = steps.doubted one (record { found = found; number_is = eqb-true one.parked.call.number.0 number is }) doubtful;
-  kept_so = without-kept state.kept caller are;
-}
-lost-at state caller number one false is found doubtful are =
-    let other : IsOther number (Some one) = λ same. (let clash : false ≡ true = sym is ∙ eq-eqb one.parked.call.number.0 number same in cc) in
-    record {
-      left = state.kept;
-      gone = steps.never (subst (λ (k : Option Kept). IsOther number k) (sym found) other);
-      kept_so = are;
-    }
-
-lost-by : (state : State) (caller number : ℕ) (found : Option Kept) → kept_of state.kept caller ≡ found → AreKept [] state.kept → IsLost state caller number
-lost-by state caller number None is are = record {
-  left = state.kept;
-  gone = steps.never (subst (λ (k : Option Kept). IsOther number k) (sym is) tt);
-  kept_so = are;
-}
-lost-by state caller number (Some one) is are =
-    lost-at state caller number one (one.parked.call.number.0 == number) refl is (kept-doubtful state.kept caller one are is) are
-
-is-lost : (state : State) (caller number : ℕ) → AreKept [] state.kept → IsLost state caller number
-is-lost state caller number are = lost-by state caller number (kept_of state.kept caller) refl are
-
-pub finish-refused : (old : Session) (tenant : TenantId) (caller number : ℕ) (outcome : Outcome) (writes : List Write) → IsOpen old
-    → tenant_of old.admitted ≡ Some tenant
-    → Refused old old (request.Finish caller (record { 0 = number }) outcome writes) (answer.Finished item.NotParked)
-finish-refused old tenant caller number outcome writes ready admitted = record {
-  explained = λ grants limit journal fits state was.
-      let lost = is-lost state caller number was.kept in
-      record {
-        next = after_answer state (answer.Finished item.NotParked) lost.left;
-        step = steps.finishes tenant caller number outcome writes item.NotParked lost.left (was.tenant ∙ admitted) (steps.not_finished lost.left lost.gone);
-        stands = record { tenant = was.tenant; seen = was.seen; kept = lost.kept_so };
-      };
-  ends = ready;
+asks-same : (session : Session) (message : Request) → IsOpen session → IsPlain message → Asks session session message (ask.Plain message)
+asks-same session message ready plain = record {
+  stands_for = refl;
+  admitted = refl;
+  asked = plain;
+  ready = ready;
+  still = λ state was. was;
   fits = λ journal grants fits. fits;
-  within = tt;
+  ask_fits = λ journal grants fits. tt;
   conf = refl;
 }
 
-pub fetch-planned : (old : Session) (book : BookValue) (journal : List Entry) (tenant : TenantId) (caller number : ℕ) (table : TableId) (key : List ℕ)
-    → IsOpen old → Fits old journal book.grants → tenant_of old.admitted ≡ Some tenant → StandsFor book journal
-    → Planned old old book book journal (request.Fetch caller (record { 0 = number }) table key) (plan.Send (answer.Fetched fetched.NotParked))
-fetch-planned old book journal tenant caller number table key ready fits admitted stands =
-    sends old old book book journal [] (request.Fetch caller (record { 0 = number }) table key) (answer.Fetched fetched.NotParked)
-    (stands-nil book journal stands) (stays-fixed book) refl fits refl refl (omega (arith, fits.seen, length-append journal [])) ready ready tt
-    (λ state was.
-    let lost = is-lost state caller number was.kept in
-    record {
-      next = after_answer state (answer.Fetched fetched.NotParked) lost.left;
-      step = steps.fetches tenant caller number table key fetched.NotParked lost.left (was.tenant ∙ admitted) (steps.not_fetched lost.left lost.gone);
-      stands = record { tenant = was.tenant; seen = was.seen; kept = lost.kept_so };
-    })
+pub asks-plain : (session : Session) (message : Request) → IsOpen session → ((text : List ℕ) → message ≡ request.Install text → ⊥)
+    → ((caller number : ℕ) (outcome : Outcome) (writes : List Write) → message ≡ request.Finish caller (record { 0 = number }) outcome writes → ⊥)
+    → Asks session session message (ask.Plain message)
+asks-plain session (request.Hello tenant secret) ready no_install no_finish = asks-same session (request.Hello tenant secret) ready tt
+asks-plain session (request.Install text) ready no_install no_finish = absurd (no_install text refl)
+asks-plain session (request.Batch calls) ready no_install no_finish = asks-same session (request.Batch calls) ready tt
+asks-plain session (request.Fetch caller number table key) ready no_install no_finish = asks-same session (request.Fetch caller number table key) ready tt
+asks-plain session (request.Finish caller number outcome writes) ready no_install no_finish = absurd (no_finish caller number.0 outcome writes refl)
+asks-plain session (request.Put table key value) ready no_install no_finish = asks-same session (request.Put table key value) ready tt
+asks-plain session (request.TextOf ext) ready no_install no_finish = asks-same session (request.TextOf ext) ready tt
+asks-plain session request.Bye ready no_install no_finish = asks-same session request.Bye ready tt
+
+-- ---- Ends of sessions
 
 -- a Bye in turn ends the session
 pub bye-planned : (old new : Session) (book : BookValue) (journal : List Entry) (tenant : TenantId) → Fits old journal book.grants
@@ -255,22 +182,19 @@ pub bye-planned : (old new : Session) (book : BookValue) (journal : List Entry) 
     → Planned old new book book journal request.Bye (plan.Stop None)
 bye-planned old new book journal tenant fits admitted stands new_is =
     let own : new.admitted ≡ old.admitted = ap (λ (s : Session). s.admitted) new_is in
+    let parked : new.parked ≡ old.parked = ap (λ (s : Session). s.parked) new_is in
     let seen : new.seen ≡ old.seen = ap (λ (s : Session). s.seen) new_is in
     record {
       later = [];
       stands = stands-nil book journal stands;
       adds = refl;
-      fits = record {
-        rights = subst (λ (a : Option Admitted). HasOwnRights a (journal ++ []) book.grants) (sym own)
-            (rights-longer old.admitted journal [] book.grants fits.rights);
-        seen = omega (arith, seen, fits.seen, length-append journal []);
-      };
+      fits = fits-so old new journal [] book.grants fits own parked (omega (arith, seen, fits.seen, length-append journal []));
       conf = ap (λ (s : Session). s.conf) new_is;
       does = record {
         bye = refl;
         in_turn = ap (λ (t : Option TenantId). is_in_turn t request.Bye) admitted;
         ended = ap (λ (s : Session). s.phase) new_is;
-        still = λ state was. stands-still old new state was own seen;
+        still = λ state was. stands-still old new state was own parked seen;
       };
     }
 
@@ -280,5 +204,5 @@ pub fault-planned : (old new : Session) (book : BookValue) (journal : List Entry
     → ((state : State) → Stands old state → steps.Step (terms_over old book) (journal ++ []) state message (faulted why) state)
     → Planned old new book book journal message (plan.Stop (Some (faulted why)))
 fault-planned old new book journal message why stands fits new_is step =
-    stops old new book journal message why stands fits (ap (λ (s : Session). s.admitted) new_is) (ap (λ (s : Session). s.conf) new_is)
-    (ap (λ (s : Session). s.seen) new_is) (ap (λ (s : Session). s.phase) new_is) (fault-in why) step
+    stops old new book journal message why stands fits (ap (λ (s : Session). s.admitted) new_is) (ap (λ (s : Session). s.parked) new_is)
+    (ap (λ (s : Session). s.conf) new_is) (ap (λ (s : Session). s.seen) new_is) (ap (λ (s : Session). s.phase) new_is) (fault-in why) step

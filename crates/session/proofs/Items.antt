@@ -1,7 +1,8 @@
--- Items of a batch: what they show is in the journal, and what is kept behind them.
-use Rattle.std.specs.Prelude.{max, ◌==◌, ◌&&◌, Bool, true, false, nat_le, slice_get, if◌then◌else◌}
+-- Items of a batch: what they show is in the journal.
+use Rattle.std.specs.Prelude.{IsTrue, max, ◌==◌, ◌&&◌, Bool, true, false, nat_le, slice_get, if◌then◌else◌}
 use Rattle.std.specs.List.{AllByRecursion}
-use Rattle.std.proofs.Common.{◌≡◌, ◌≤◌, ◌<◌, ◌+◌, ◌^◌, ◌⊎◌, ℕ, zero, suc, List, [], ◌∷◌, ◌++◌, length, take, Option, Some, None, refl, sym, subst, ap, ◌∙◌, inl, inr, arith, length-append}
+use Rattle.std.proofs.Common.{◌≡◌, ◌≤◌, ◌<◌, ◌^◌, ℕ, zero, suc, List, [], ◌∷◌, length, take, Option, Some, None, refl, subst, arith}
+use Rattle.std.proofs.lemmas.Bool.{leb-true}
 use Rattle.std.proofs.lemmas.List.{length-take}
 use Rattle.std.proofs.lemmas.Option.{slice_get_within}
 use Rattle.sp_base.specs.declared.calls.Asked.{Asked}
@@ -11,10 +12,15 @@ use Rattle.sp_base.specs.declared.numbers.TableId.{TableId}
 use Rattle.sp_base.specs.declared.numbers.TenantId.{TenantId}
 use Rattle.sp_base.specs.declared.outcomes.Outcome.{Outcome}
 use Rattle.sp_base.specs.declared.reads.ReadItem.{ReadItem}
+use Rattle.sp_base.specs.declared.limits.TheConstants.{MOST_PUSHED}
+use Rattle.sp_base.specs.Placing.{is_pushed}
 use Rattle.ext_mean.specs.Outcomes.{ReplyFits}
 use Rattle.ext_mean.specs.Views.{part, place_of}
 use Rattle.ext_mean.proofs.ConfinementProved.{within-limits}
 use Rattle.records.specs.GrantsList.{GrantsList}
+use Rattle.rw_set.specs.ReadLists.{IsReadList}
+use Rattle.rw_set.specs.Weight.{weight_of}
+use Rattle.task.specs.Parking.{ParkedCall}
 use Rattle.journal.specs.declared.entry.Entry.{Entry}
 use Rattle.journal.specs.Folds.{last_of, version_of}
 use Rattle.journal.specs.Granted.{granted}
@@ -23,15 +29,15 @@ use Rattle.book.specs.declared.answers.Commit.{Commit}
 use Rattle.book.specs.declared.answers.Commit.TheVariants as commit
 use Rattle.book.specs.declared.ends.End.{End}
 use Rattle.book.specs.declared.ends.End.TheVariants as ended
-use Rattle.book.specs.Ends.{IsSettled, ItemHolds}
+use Rattle.book.specs.Ends.{IsPushed, IsSettled, ItemHolds}
 use Rattle.book.specs.Verdict.{entry_of, is_full, moved, verdict_on}
 use Rattle.wire.specs.declared.items.Item.{Item}
 use Rattle.wire.specs.declared.items.Item.TheVariants as item
 use Rattle.session.specs.Batches as batches
-use Rattle.session.specs.Batches.{AllLeave, AreItems, IsItemOf, IsRefusal, Leaves, call_of, item_of}
+use Rattle.session.specs.Batches.{AreItems, IsItemOf, IsRefusal, call_of, item_of}
 use Rattle.session.specs.Seeing.{AllCounted, IsCounted}
-use Rattle.session.specs.Standing.{AreKept, IsItemWithin}
-use Rattle.session.specs.States.{Kept, State, Terms, is_of, seen_in_item, seen_in_items, without_doubtful}
+use Rattle.session.specs.Standing.{IsItemWithin}
+use Rattle.session.specs.States.{State, Terms, seen_in_item, seen_in_items, seen_in_reads}
 
 -- an item of a call that was not handed back
 abbrev pub IsHere : Item → Type 0
@@ -82,7 +88,7 @@ moved-held-by before first reads read true is held rest = rest is
 moved-held-by before first reads read false is held rest =
     let one : first ≡ read = cc in subst (λ (r : ReadItem). r.read_at ≤ length before) one held.by_then
 
-moved-held : (before : List Entry) (reads : List ReadItem) (read : ReadItem) → moved before reads ≡ Some read
+pub moved-held : (before : List Entry) (reads : List ReadItem) (read : ReadItem) → moved before reads ≡ Some read
     → AllByRecursion (IsHeld before) reads → read.read_at ≤ length before
 moved-held before [] read is held = absurd cc
 moved-held before (first ∷ reads) read is held =
@@ -93,7 +99,7 @@ no-conflict : (full : Bool) (now : ℕ) (outcome : Outcome) (table : TableId) (k
 no-conflict true now outcome table key read read_at now_is now_at is = (cc)
 no-conflict false now outcome table key read read_at now_is now_at is = (cc)
 
-conflict-by : (limit : ℕ) (before : List Entry) (own : Entry) (outcome : Outcome) (stale : Bool) (last : ℕ) (found : Option ReadItem)
+pub conflict-by : (limit : ℕ) (before : List Entry) (own : Entry) (outcome : Outcome) (stale : Bool) (last : ℕ) (found : Option ReadItem)
     (table : TableId) (key : List ℕ) (read read_at now now_at : ℕ)
     → commit.Conflict table key read read_at now now_at ≡ (if stale then commit.Stale last (length before) else verdict_on limit before own outcome found)
     → (first : ReadItem) × (found ≡ Some first) × (read_at ≡ first.read_at)
@@ -107,7 +113,7 @@ committed-where : (full : Bool) (now : ℕ) (ended_so : Outcome) (n : ℕ) (outc
 committed-where true now ended_so n outcome is = absurd (cc)
 committed-where false now ended_so n outcome is = (cc)
 
-committed-by : (limit : ℕ) (before : List Entry) (own : Entry) (ended_so : Outcome) (stale : Bool) (last : ℕ) (found : Option ReadItem) (n : ℕ) (outcome : Outcome)
+pub committed-by : (limit : ℕ) (before : List Entry) (own : Entry) (ended_so : Outcome) (stale : Bool) (last : ℕ) (found : Option ReadItem) (n : ℕ) (outcome : Outcome)
     → commit.Committed n outcome ≡ (if stale then commit.Stale last (length before) else verdict_on limit before own ended_so found)
     → ended_so ≡ outcome
 committed-by limit before own ended_so true last found n outcome is = absurd cc
@@ -154,7 +160,38 @@ settled-sound grants limit journal since call (commit.Full at) is =
 settled-sound grants limit journal since call commit.Memory is =
     record { seen = λ seen by. by; counted = λ short. tt; within = tt }
 
-end-sound : (grants : GrantsList) (limit : ℕ) (policy : Policy) (journal : List Entry) (since : ℕ) (call : Call) (end : End)
+-- the moments of reads that a journal holds are within it
+reads-seen : (reads : List ReadItem) (before : List Entry) (seen n : ℕ) → seen ≤ n → length before ≤ n → AllByRecursion (IsHeld before) reads
+    → seen_in_reads seen reads ≤ n
+reads-seen [] before seen n by short held = by
+reads-seen (read ∷ reads) before seen n by short held =
+    let then_by = held.0.by_then in
+    reads-seen reads before (max seen read.read_at) n (omega (arith, by, short, then_by)) short held.1
+
+last-holds : (a b c d : Bool) → (a && b && c && d) ≡ true → d ≡ true
+last-holds true true true d is = is
+last-holds true true false d is = absurd cc
+last-holds true false c d is = absurd cc
+last-holds false b c d is = absurd cc
+
+light : (policy : Policy) (load spent bytes : ℕ) (push_ok : Bool) → IsTrue (is_pushed policy load spent bytes push_ok) → bytes ≤ MOST_PUSHED
+light policy load spent bytes push_ok pushed =
+    leb-true bytes MOST_PUSHED
+    (last-holds push_ok (nat_le policy.high load) (nat_le policy.least spent) (nat_le bytes MOST_PUSHED) pushed)
+
+-- a call that was handed back shows the moments of its reads
+pub pushed-sound : (grants : GrantsList) (policy : Policy) (journal : List Entry) (since : ℕ) (call : Call) (load spent : ℕ) (parked : ParkedCall)
+    → IsReadList parked.reads → IsPushed grants policy journal since call load spent parked → IsSoundItem journal (item.Pushed load spent parked.reads)
+pushed-sound grants policy journal since call load spent parked kept is =
+    let by_now : is.moment ≤ length journal = is.shown.by_now in
+    let short : length (take is.moment journal) ≤ length journal = omega (arith, length-take is.moment journal) in
+    record {
+      seen = λ seen by. reads-seen parked.reads (take is.moment journal) seen (length journal) by short is.handed.are.held;
+      counted = λ small. tt;
+      within = (kept, light policy load spent (weight_of parked.reads) call.push_ok is.handed.pushed);
+    }
+
+pub end-sound : (grants : GrantsList) (limit : ℕ) (policy : Policy) (journal : List Entry) (since : ℕ) (call : Call) (end : End)
     → IsHere (item_of end) → ItemHolds grants limit policy journal since call end → IsSoundItem journal (item_of end)
 end-sound grants limit policy journal since call (ended.Settled (commit.Committed n outcome)) here holds =
     settled-sound grants limit journal since call (commit.Committed n outcome) holds
@@ -170,7 +207,7 @@ end-sound grants limit policy journal since call (ended.Pushed load spent parked
 end-sound grants limit policy journal since call ended.Memory here holds =
     record { seen = λ seen by. by; counted = λ short. tt; within = tt }
 
-item-sound : (terms : Terms) (tenant : TenantId) (journal : List Entry) (state : State) (earlier : List Asked) (asked : Asked) (given : Item)
+pub item-sound : (terms : Terms) (tenant : TenantId) (journal : List Entry) (state : State) (earlier : List Asked) (asked : Asked) (given : Item)
     → IsHere given → IsItemOf terms tenant journal state earlier asked given → IsSoundItem journal given
 item-sound terms tenant journal state earlier asked given here (batches.repeated among) =
     record { seen = λ seen by. by; counted = λ short. tt; within = tt }
@@ -204,65 +241,3 @@ items-counted journal items short sound = all-map (IsSoundItem journal) IsCounte
 
 pub items-within : (journal : List Entry) (items : List Item) → AllByRecursion (IsSoundItem journal) items → AllByRecursion IsItemWithin items
 items-within journal items sound = all-map (IsSoundItem journal) IsItemWithin items (λ given is. is.within) sound
-
--- ---- What is kept
-
-without-doubtful-kept : (kept : List Kept) (caller : ℕ) → AreKept [] kept → AreKept [] (without_doubtful kept caller)
-without-doubtful-kept [] caller are = refl
-without-doubtful-kept (one ∷ others) caller are =
-    elim (is_of caller one && one.doubtful) as
-    (λ (gone : Bool). AreKept [] (if gone then without_doubtful others caller else one ∷ without_doubtful others caller)) [
-      | true ↦ without-doubtful-kept others caller are.1
-      | false ↦ (are.0, without-doubtful-kept others caller are.1)
-    ]
-
--- what is kept behind an item, or behind all of them; no call of it is parked in the session
-pub record Left (journal : List Entry) (tenant : TenantId) (kept : List Kept) (calls : List Asked) (items : List Item) : Type 0 where
-  pub after : List Kept
-  pub leave : AllLeave journal tenant kept calls items after
-  pub kept_so : AreKept [] after
-
-record LeftByOne (journal : List Entry) (tenant : TenantId) (kept : List Kept) (asked : Asked) (given : Item) : Type 0 where
-  after : List Kept
-  leaves : Leaves journal tenant kept asked given after
-  kept_so : AreKept [] after
-
-as-kept : (journal : List Entry) (tenant : TenantId) (kept : List Kept) (asked : Asked) (given : Item) → AreKept [] kept
-    → Leaves journal tenant kept asked given kept → LeftByOne journal tenant kept asked given
-as-kept journal tenant kept asked given are leaves = record { after = kept; leaves = leaves; kept_so = are }
-
-without-one : (journal : List Entry) (tenant : TenantId) (kept : List Kept) (asked : Asked) (given : Item) → AreKept [] kept
-    → Leaves journal tenant kept asked given (without_doubtful kept asked.caller) → LeftByOne journal tenant kept asked given
-without-one journal tenant kept asked given are leaves = record {
-  after = without_doubtful kept asked.caller;
-  leaves = leaves;
-  kept_so = without-doubtful-kept kept asked.caller are;
-}
-
-left-by-one : (journal : List Entry) (tenant : TenantId) (kept : List Kept) (asked : Asked) (given : Item) → AreKept [] kept → IsHere given
-    → LeftByOne journal tenant kept asked given
-left-by-one journal tenant kept asked item.Repeated are here = as-kept journal tenant kept asked item.Repeated are refl
-left-by-one journal tenant kept asked (item.Busy number) are here = as-kept journal tenant kept asked (item.Busy number) are refl
-left-by-one journal tenant kept asked (item.Committed n outcome) are here = without-one journal tenant kept asked (item.Committed n outcome) are refl
-left-by-one journal tenant kept asked (item.Stale last at) are here = without-one journal tenant kept asked (item.Stale last at) are refl
-left-by-one journal tenant kept asked (item.Conflict table key read read_at now now_at) are here =
-    without-one journal tenant kept asked (item.Conflict table key read read_at now now_at) are refl
-left-by-one journal tenant kept asked (item.Full at) are here = without-one journal tenant kept asked (item.Full at) are refl
-left-by-one journal tenant kept asked (item.NoExtension count at) are here = without-one journal tenant kept asked (item.NoExtension count at) are refl
-left-by-one journal tenant kept asked item.BadBudget are here = without-one journal tenant kept asked item.BadBudget are refl
-left-by-one journal tenant kept asked item.Memory are here = without-one journal tenant kept asked item.Memory are refl
-left-by-one journal tenant kept asked (item.Pushed load spent reads) are here = absurd here
-left-by-one journal tenant kept asked (item.Foreign table) are here = absurd here
-left-by-one journal tenant kept asked (item.Shape code) are here = absurd here
-left-by-one journal tenant kept asked item.Lied are here = absurd here
-left-by-one journal tenant kept asked item.NotParked are here = absurd here
-
-pub left-behind : (journal : List Entry) (tenant : TenantId) (kept : List Kept) (calls : List Asked) (items : List Item)
-    → length items ≡ length calls → AreKept [] kept → AllByRecursion IsHere items → Left journal tenant kept calls items
-left-behind journal tenant kept [] [] many are here = record { after = kept; leave = refl; kept_so = are }
-left-behind journal tenant kept [] (given ∷ items) many are here = absurd (omega (arith, many))
-left-behind journal tenant kept (asked ∷ calls) [] many are here = absurd (omega (arith, many))
-left-behind journal tenant kept (asked ∷ calls) (given ∷ items) many are here =
-    let one = left-by-one journal tenant kept asked given are here.0 in
-    let rest = left-behind journal tenant one.after calls items (omega (arith, many)) one.kept_so here.1 in
-    record { after = rest.after; leave = (one.after, one.leaves, rest.leave); kept_so = rest.kept_so }

@@ -3,8 +3,14 @@ pub mod LongerSteps
 pub mod Planning
 pub mod Putting
 pub mod Telling
+pub mod Keeping
 pub mod Items
+pub mod Leaving
+pub mod Handing
 pub mod Filling
 pub mod Asking
 pub mod Starting
 pub mod Batching
+pub mod Fetching
+pub mod Taking
+pub mod Finishing

@@ -1,22 +1,32 @@
 -- What a journal says of a session, every longer one says too.
+use Rattle.std.specs.List.{AllByRecursion}
+use Rattle.std.proofs.lemmas.List.{take-append-le}
 use Rattle.std.specs.Prelude.{◌==◌, Bool, true, false, slice_get, if◌then◌else◌}
-use Rattle.std.proofs.Common.{◌≡◌, ◌≤◌, ◌<◌, ℕ, List, [], ◌∷◌, ◌++◌, length, take, Option, Some, None, refl, sym, subst, ap, ◌∙◌, arith, length-append}
+use Rattle.std.proofs.Common.{◌≡◌, ◌≤◌, ℕ, List, [], ◌∷◌, ◌++◌, length, take, Option, Some, None, refl, sym, subst, ap, ◌∙◌, arith, length-append}
 use Rattle.sp_base.specs.declared.calls.Asked.{Asked}
+use Rattle.sp_base.specs.declared.calls.Call.{Call}
 use Rattle.sp_base.specs.declared.numbers.TableId.{TableId}
 use Rattle.sp_base.specs.declared.numbers.TenantId.{TenantId}
 use Rattle.sp_base.specs.declared.outcomes.Outcome.{Outcome}
 use Rattle.sp_base.specs.declared.reads.ReadItem.{ReadItem}
 use Rattle.sp_base.specs.declared.writes.Write.{Write}
-use Rattle.records.specs.GrantsList.{GrantsList}
+use Rattle.ext_mean.specs.declared.tree.Program.{Program}
+use Rattle.ext_mean.specs.Views.{place_of}
+use Rattle.records.specs.GrantsList.{GrantsList, RightsList}
+use Rattle.rw_set.specs.declared.sent.Sent.{Sent}
+use Rattle.task.specs.Extensions.{ExtValue}
+use Rattle.task.specs.Parking.{ParkedCall}
 use Rattle.journal.specs.declared.entry.Entry.{Entry}
 use Rattle.journal.specs.declared.entry.Entry.TheVariants as entry
-use Rattle.journal.specs.Folds.{texts_of}
+use Rattle.journal.specs.Folds.{tables_of, texts_of, version_of}
+use Rattle.journal.specs.Legal.{Names}
+use Rattle.journal.specs.Reads.{IsHeld}
 use Rattle.book.specs.declared.answers.Commit.{Commit}
 use Rattle.book.specs.declared.answers.Install.{Install}
 use Rattle.book.specs.declared.answers.Install.TheVariants as install
 use Rattle.book.specs.declared.answers.Put.{Put}
 use Rattle.book.specs.declared.answers.Put.TheVariants as put
-use Rattle.book.specs.Ends.{IsShown, NamesExt, moment_of}
+use Rattle.book.specs.Ends.{NamesExt, moment_of}
 use Rattle.book.specs.Verdict.{install_answer, item_at, put_answer, verdict}
 use Rattle.wire.specs.declared.answers.Answer.{Answer}
 use Rattle.wire.specs.declared.answers.FetchAnswer.{FetchAnswer}
@@ -28,7 +38,10 @@ use Rattle.session.specs.declared.session.Session.{Session}
 use Rattle.session.specs.Batches as batches
 use Rattle.session.specs.Batches.{AllLeave, AreItems, CanBegin, IsItemOf, IsParked, Leaves, call_of}
 use Rattle.session.specs.declared.session.Admitted.{Admitted}
-use Rattle.session.specs.Standing.{Awaits, Fits, HasOwnRights}
+use Rattle.session.specs.declared.plan.Ask.{Ask}
+use Rattle.session.specs.declared.plan.Ask.TheVariants as ask
+use Rattle.session.specs.Sending.{SentFits}
+use Rattle.session.specs.Standing.{AskFits, Awaits, Fits, HasOwnRights, IsParkedIn, ParkedFit, tenant_of}
 use Rattle.session.specs.States.{Kept, State, Terms}
 use Rattle.session.specs.Steps as steps
 use Rattle.session.specs.Steps.{InstallStands, IsFetchAnswer, IsFinishAnswer, IsInstallAnswer, IsPutAnswer, IsSentVerdict, IsTextAnswer, PutStands, Step, sent_entry}
@@ -245,12 +258,89 @@ pub rights-longer : (own : Option Admitted) (journal later : List Entry) (grants
 rights-longer None journal later grants has = tt
 rights-longer (Some admitted) journal later grants has = has
 
+-- a text that is there stays at its number
+text-there : (journal later : List Entry) (tenant : TenantId) (number : ℕ) (text : List ℕ) → slice_get (texts_of journal tenant) number ≡ Some text
+    → slice_get (texts_of (journal ++ later) tenant) number ≡ Some text
+text-there journal later tenant number text found =
+    ap (λ (texts : List (List ℕ)). slice_get texts number) (texts-longer journal later tenant)
+    ∙ found-longer (texts_of journal tenant) (texts_of later tenant) number text found
+
+pub names-ext-longer : (journal later : List Entry) (call : Call) (ext : ExtValue) → NamesExt journal call ext → NamesExt (journal ++ later) call ext
+names-ext-longer journal later call ext named = record {
+  found = text-there journal later call.caller.tenant call.ext.0 ext.text named.found;
+  accepted = named.accepted;
+}
+
+pub names-longer : (journal later : List Entry) (call : Call) (program : Program) → Names journal call program → Names (journal ++ later) call program
+names-longer journal later call program names = record {
+  text = names.text;
+  found = text-there journal later call.caller.tenant call.ext.0 names.text names.found;
+  spelled = names.spelled;
+}
+
+held-longer : (journal later : List Entry) (read : ReadItem) → IsHeld journal read → IsHeld (journal ++ later) read
+held-longer journal later read held =
+    let same : take read.read_at (journal ++ later) ≡ take read.read_at journal = take-append-le read.read_at journal later held.by_then in
+    record {
+      by_then = omega (arith, held.by_then, length-append journal later);
+      version = held.version ∙ ap (λ (before : List Entry). version_of before (place_of read)) (sym same);
+      value = held.value ∙ ap (λ (before : List Entry). tables_of before (place_of read)) (sym same);
+    }
+
+pub all-held-longer : (journal later : List Entry) (reads : List ReadItem) → AllByRecursion (IsHeld journal) reads
+    → AllByRecursion (IsHeld (journal ++ later)) reads
+all-held-longer journal later [] held = tt
+all-held-longer journal later (read ∷ reads) held = (held-longer journal later read held.0, all-held-longer journal later reads held.1)
+
+pub parked-in-longer : (tenant : TenantId) (rights : RightsList) (journal later : List Entry) (parked : ParkedCall)
+    → IsParkedIn tenant rights journal parked → IsParkedIn tenant rights (journal ++ later) parked
+parked-in-longer tenant rights journal later parked is = record {
+  own = is.own;
+  args = is.args;
+  budget = is.budget;
+  named = names-ext-longer journal later parked.call parked.ext is.named;
+  held = all-held-longer journal later parked.reads is.held;
+  readable = is.readable;
+  paid = is.paid;
+}
+
+pub parked-fit-longer : (own : Option Admitted) (journal later : List Entry) (parked : List ParkedCall)
+    → ParkedFit own journal parked → ParkedFit own (journal ++ later) parked
+parked-fit-longer None journal later parked fit = fit
+parked-fit-longer (Some admitted) journal later parked fit = λ caller one found.
+    parked-in-longer admitted.tenant admitted.rights journal later one (fit caller one found)
+
 pub fits-longer : (session : Session) (journal later : List Entry) (grants : GrantsList)
     → Fits session journal grants → Fits session (journal ++ later) grants
 fits-longer session journal later grants fits = record {
   rights = rights-longer session.admitted journal later grants fits.rights;
   seen = omega (arith, fits.seen, length-append journal later);
+  each = fits.each;
+  few = fits.few;
+  parked = parked-fit-longer session.admitted journal later session.parked fits.parked;
 }
+
+-- a run that may be committed may be committed later
+sent-fits-longer : (tenant : Option TenantId) (audit : Bool) (sent : Sent) (journal later : List Entry) (grants : GrantsList)
+    → SentFits tenant audit sent journal grants → SentFits tenant audit sent (journal ++ later) grants
+sent-fits-longer tenant audit sent journal later grants fits = record {
+  own = fits.own;
+  args = fits.args;
+  ran = record {
+    program = fits.ran.program;
+    held = all-held-longer journal later sent.reads fits.ran.held;
+    named = names-longer journal later sent.call fits.ran.program fits.ran.named;
+    within = record { reading = fits.ran.within.reading; writing = fits.ran.within.writing };
+    true_to = fits.ran.true_to;
+  };
+}
+
+pub asks-longer : (session : Session) (given : Ask) (journal later : List Entry) (grants : GrantsList)
+    → AskFits session given journal grants → AskFits session given (journal ++ later) grants
+asks-longer session (ask.Plain message) journal later grants fits = tt
+asks-longer session (ask.Install ext) journal later grants fits = tt
+asks-longer session (ask.Finish sent) journal later grants fits =
+    sent-fits-longer (tenant_of session.admitted) session.conf.audit sent journal later grants fits
 
 pub waits-longer : (session : Session) (terms : Terms) (journal later : List Entry) (calls : List Asked)
     → Awaits session terms journal calls → Awaits session terms (journal ++ later) calls
@@ -262,5 +352,7 @@ waits-longer session terms journal later calls awaits = record {
   some = awaits.some;
   few = awaits.few;
   refusals = awaits.refusals;
+  args = awaits.args;
+  free = awaits.free;
   each = λ state stands. items-longer terms awaits.tenant journal later state calls awaits.items (awaits.each state stands);
 }

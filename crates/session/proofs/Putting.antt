@@ -1,6 +1,6 @@
 -- A put, and an installation, as the book answers them.
 use Rattle.std.specs.Prelude.{max, Bool, true, false, slice_get, if◌then◌else◌}
-use Rattle.std.proofs.Common.{◌≡◌, ◌≤◌, ◌+◌, ◌⊎◌, ℕ, suc, List, [], ◌∷◌, ◌++◌, length, Some, refl, sym, subst, ap, ◌∙◌, inl, inr, arith, length-append, append-nil}
+use Rattle.std.proofs.Common.{◌≡◌, ◌+◌, ◌⊎◌, ℕ, List, [], ◌∷◌, ◌++◌, length, Some, refl, sym, subst, ap, ◌∙◌, inl, inr, arith, length-append}
 use Rattle.sp_base.specs.declared.numbers.ExtNo.{ExtNo}
 use Rattle.sp_base.specs.declared.numbers.TableId.{TableId}
 use Rattle.sp_base.specs.declared.numbers.TenantId.{TenantId}
@@ -24,7 +24,7 @@ use Rattle.session.specs.declared.plan.Plan.TheVariants as plan
 use Rattle.session.specs.declared.session.Session.{Session}
 use Rattle.session.specs.Seeing.{install_seen, put_seen}
 use Rattle.session.specs.Standing.{Explains, Fits, IsOpen, Planned, Stands, tenant_of, terms_over}
-use Rattle.session.specs.States.{State, after_answer, seen_in_install, seen_in_put}
+use Rattle.session.specs.States.{after_answer, seen_in_install, seen_in_put}
 use Rattle.session.specs.Steps as steps
 use Rattle.session.specs.Steps.{InstallStands, PutStands, install_told, put_told}
 use Rattle.session.proofs.Planning.{at-now, now-in, seen-by, sends, stands-after, stands-nil, stands-still}
@@ -47,10 +47,10 @@ put-full-is false full at now told = absurd (cc)
 put-explained : (old new : Session) (book : BookValue) (journal later : List Entry) (tenant : TenantId) (table : TableId) (key value : List ℕ) (given : Put)
     → Fits old journal book.grants → tenant_of old.admitted ≡ Some tenant
     → given ≡ put_answer book.grants book.limit journal tenant table (entry.Put tenant table key value)
-    → PutStands (journal ++ later) (entry.Put tenant table key value) given → new.admitted ≡ old.admitted
+    → PutStands (journal ++ later) (entry.Put tenant table key value) given → new.admitted ≡ old.admitted → new.parked ≡ old.parked
     → new.seen ≡ seen_in_put old.seen (put_told given)
-    → Explains (terms_over old book) (journal ++ later) old new (request.Put table key value) (answer.PutDone (put_told given))
-put-explained old new book journal later tenant table key value given fits tenanted told there own shown = λ state stands. record {
+    → Explains (terms_over old book) (journal ++ later) (Stands old) new (request.Put table key value) (answer.PutDone (put_told given))
+put-explained old new book journal later tenant table key value given fits tenanted told there own parked shown = λ state stands. record {
   next = after_answer state (answer.PutDone (put_told given)) state.kept;
   step = steps.puts_one tenant table key value given (stands.tenant ∙ tenanted) (record {
     moment = length journal;
@@ -58,11 +58,14 @@ put-explained old new book journal later tenant table key value given fits tenan
     told = now-in (λ (before : List Entry). given ≡ put_answer book.grants book.limit before tenant table (entry.Put tenant table key value)) journal later told;
     stands = there;
   });
-  stands = stands-after old new state (answer.PutDone (put_told given)) stands own shown;
+  stands = stands-after old new state (answer.PutDone (put_told given)) stands own parked shown;
 }
 
 own-of : (old new : Session) (seen : ℕ) → new ≡ record old { seen = seen } → new.admitted ≡ old.admitted
 own-of old new seen is = ap (λ (s : Session). s.admitted) is
+
+parked-of : (old new : Session) (seen : ℕ) → new ≡ record old { seen = seen } → new.parked ≡ old.parked
+parked-of old new seen is = ap (λ (s : Session). s.parked) is
 
 pub told-by : {A : Type 0} (given memory answered : A) → (given ≡ memory → ⊥) → (given ≡ memory) ⊎ (given ≡ answered) → given ≡ answered
 told-by given memory answered some (inl is) = absurd (some is)
@@ -82,36 +85,36 @@ put-planned old new before after journal tenant table key value (put.Done n) now
     let longer : length (journal ++ own_put ∷ []) ≡ length journal + 1 = length-append journal (own_put ∷ []) in
     let seen : new.seen ≡ max old.seen (n + 1) = ap (λ (s : Session). s.seen) new_is ∙ ap (max old.seen) (counted ∙ longer ∙ ap (λ (m : ℕ). m + 1) (sym number)) in
     sends old new before after journal (own_put ∷ []) (request.Put table key value) (answer.PutDone (put_told (put.Done n)))
-    stands fixed (number, refl) fits (own-of old new _ new_is) (ap (λ (s : Session). s.conf) new_is)
+    stands fixed (number, refl) fits (own-of old new _ new_is) (parked-of old new _ new_is) (ap (λ (s : Session). s.conf) new_is)
     (omega (arith, seen, number, longer, fits.seen)) (ap (λ (s : Session). s.phase) new_is ∙ ready) (ap (λ (s : Session). s.phase) new_is ∙ ready) tt
     (put-explained old new before journal (own_put ∷ []) tenant table key value (put.Done n) fits tenanted told
     (subst (λ (m : ℕ). slice_get (journal ++ own_put ∷ []) m ≡ Some own_put) (sym number) (slice_get-append_seam journal own_put []))
-    (own-of old new _ new_is) seen)
+    (own-of old new _ new_is) (parked-of old new _ new_is) seen)
 put-planned old new before after journal tenant table key value put.Denied now ready fits tenanted fixed is stands counted new_is =
     let told = told-by put.Denied put.Memory (put_answer before.grants before.limit journal tenant table (entry.Put tenant table key value)) (λ memory. cc) is in
     let seen : new.seen ≡ old.seen = ap (λ (s : Session). s.seen) new_is in
     sends old new before after journal [] (request.Put table key value) (answer.PutDone (put_told put.Denied))
-    (stands-nil after journal stands) fixed refl fits (own-of old new _ new_is) (ap (λ (s : Session). s.conf) new_is)
+    (stands-nil after journal stands) fixed refl fits (own-of old new _ new_is) (parked-of old new _ new_is) (ap (λ (s : Session). s.conf) new_is)
     (omega (arith, seen, fits.seen, length-append journal [])) (ap (λ (s : Session). s.phase) new_is ∙ ready) (ap (λ (s : Session). s.phase) new_is ∙ ready) tt
-    (put-explained old new before journal [] tenant table key value put.Denied fits tenanted told tt (own-of old new _ new_is) seen)
+    (put-explained old new before journal [] tenant table key value put.Denied fits tenanted told tt (own-of old new _ new_is) (parked-of old new _ new_is) seen)
 put-planned old new before after journal tenant table key value (put.Full at) now ready fits tenanted fixed is stands counted new_is =
     let own_put : Entry = entry.Put tenant table key value in
     let told = told-by (put.Full at) put.Memory (put_answer before.grants before.limit journal tenant table own_put) (λ memory. cc) is in
     let number : at ≡ length journal = put-full-is (can_write (granted before.grants journal tenant) table.0) (is_full before.limit journal own_put) at (length journal) told in
     let seen : new.seen ≡ max old.seen at = ap (λ (s : Session). s.seen) new_is ∙ ap (max old.seen) (counted ∙ sym number) in
     sends old new before after journal [] (request.Put table key value) (answer.PutDone (put_told (put.Full at)))
-    (stands-nil after journal stands) fixed refl fits (own-of old new _ new_is) (ap (λ (s : Session). s.conf) new_is)
+    (stands-nil after journal stands) fixed refl fits (own-of old new _ new_is) (parked-of old new _ new_is) (ap (λ (s : Session). s.conf) new_is)
     (omega (arith, seen, number, fits.seen, length-append journal [])) (ap (λ (s : Session). s.phase) new_is ∙ ready) (ap (λ (s : Session). s.phase) new_is ∙ ready) tt
-    (put-explained old new before journal [] tenant table key value (put.Full at) fits tenanted told tt (own-of old new _ new_is) seen)
+    (put-explained old new before journal [] tenant table key value (put.Full at) fits tenanted told tt (own-of old new _ new_is) (parked-of old new _ new_is) seen)
 put-planned old new before after journal tenant table key value put.Memory now ready fits tenanted fixed is stands counted new_is =
     let seen : new.seen ≡ old.seen = ap (λ (s : Session). s.seen) new_is in
     sends old new before after journal [] (request.Put table key value) (answer.PutDone (put_told put.Memory))
-    (stands-nil after journal stands) fixed refl fits (own-of old new _ new_is) (ap (λ (s : Session). s.conf) new_is)
+    (stands-nil after journal stands) fixed refl fits (own-of old new _ new_is) (parked-of old new _ new_is) (ap (λ (s : Session). s.conf) new_is)
     (omega (arith, seen, fits.seen, length-append journal [])) (ap (λ (s : Session). s.phase) new_is ∙ ready) (ap (λ (s : Session). s.phase) new_is ∙ ready) tt
     (λ state was. record {
       next = state;
       step = steps.puts_nothing tenant table key value (was.tenant ∙ tenanted);
-      stands = stands-still old new state was (own-of old new _ new_is) seen;
+      stands = stands-still old new state was (own-of old new _ new_is) (parked-of old new _ new_is) seen;
     })
 
 -- ---- Installations
@@ -129,10 +132,10 @@ install-full-is false at now next told = absurd (cc)
 install-explained : (old new : Session) (book : BookValue) (journal later : List Entry) (tenant : TenantId) (text : List ℕ) (program : Program) (given : Install)
     → Fits old journal book.grants → tenant_of old.admitted ≡ Some tenant → IsAccepted text program
     → given ≡ install_answer book.limit journal tenant (entry.Install tenant text)
-    → InstallStands (journal ++ later) (entry.Install tenant text) given → new.admitted ≡ old.admitted
+    → InstallStands (journal ++ later) (entry.Install tenant text) given → new.admitted ≡ old.admitted → new.parked ≡ old.parked
     → new.seen ≡ seen_in_install old.seen (install_told given)
-    → Explains (terms_over old book) (journal ++ later) old new (request.Install text) (answer.Installed (install_told given))
-install-explained old new book journal later tenant text program given fits tenanted accepted told there own shown = λ state stands. record {
+    → Explains (terms_over old book) (journal ++ later) (Stands old) new (request.Install text) (answer.Installed (install_told given))
+install-explained old new book journal later tenant text program given fits tenanted accepted told there own parked shown = λ state stands. record {
   next = after_answer state (answer.Installed (install_told given)) state.kept;
   step = steps.installs tenant text given (stands.tenant ∙ tenanted) (record {
     program = program;
@@ -142,7 +145,7 @@ install-explained old new book journal later tenant text program given fits tena
     told = now-in (λ (before : List Entry). given ≡ install_answer book.limit before tenant (entry.Install tenant text)) journal later told;
     stands = there;
   });
-  stands = stands-after old new state (answer.Installed (install_told given)) stands own shown;
+  stands = stands-after old new state (answer.Installed (install_told given)) stands own parked shown;
 }
 
 -- an accepted text is installed as the book does
@@ -159,27 +162,27 @@ install-planned old new before after journal tenant text program (install.Instal
     let longer : length (journal ++ own_entry ∷ []) ≡ length journal + 1 = length-append journal (own_entry ∷ []) in
     let seen : new.seen ≡ max old.seen (n + 1) = ap (λ (s : Session). s.seen) new_is ∙ ap (max old.seen) (counted ∙ longer ∙ ap (λ (m : ℕ). m + 1) (sym number)) in
     sends old new before after journal (own_entry ∷ []) (request.Install text) (answer.Installed (install_told (install.Installed n ext)))
-    stands fixed (number, refl) fits (own-of old new _ new_is) (ap (λ (s : Session). s.conf) new_is)
+    stands fixed (number, refl) fits (own-of old new _ new_is) (parked-of old new _ new_is) (ap (λ (s : Session). s.conf) new_is)
     (omega (arith, seen, number, longer, fits.seen)) (ap (λ (s : Session). s.phase) new_is ∙ ready) (ap (λ (s : Session). s.phase) new_is ∙ ready) tt
     (install-explained old new before journal (own_entry ∷ []) tenant text program (install.Installed n ext) fits tenanted accepted told
     (subst (λ (m : ℕ). slice_get (journal ++ own_entry ∷ []) m ≡ Some own_entry) (sym number) (slice_get-append_seam journal own_entry []))
-    (own-of old new _ new_is) seen)
+    (own-of old new _ new_is) (parked-of old new _ new_is) seen)
 install-planned old new before after journal tenant text program (install.Full at) now ready fits tenanted fixed accepted is stands counted new_is =
     let own_entry : Entry = entry.Install tenant text in
     let told = told-by (install.Full at) install.Memory (install_answer before.limit journal tenant own_entry) (λ memory. cc) is in
     let number : at ≡ length journal = install-full-is (is_full before.limit journal own_entry) at (length journal) (record { 0 = length (texts_of journal tenant) }) told in
     let seen : new.seen ≡ max old.seen at = ap (λ (s : Session). s.seen) new_is ∙ ap (max old.seen) (counted ∙ sym number) in
     sends old new before after journal [] (request.Install text) (answer.Installed (install_told (install.Full at)))
-    (stands-nil after journal stands) fixed refl fits (own-of old new _ new_is) (ap (λ (s : Session). s.conf) new_is)
+    (stands-nil after journal stands) fixed refl fits (own-of old new _ new_is) (parked-of old new _ new_is) (ap (λ (s : Session). s.conf) new_is)
     (omega (arith, seen, number, fits.seen, length-append journal [])) (ap (λ (s : Session). s.phase) new_is ∙ ready) (ap (λ (s : Session). s.phase) new_is ∙ ready) tt
-    (install-explained old new before journal [] tenant text program (install.Full at) fits tenanted accepted told tt (own-of old new _ new_is) seen)
+    (install-explained old new before journal [] tenant text program (install.Full at) fits tenanted accepted told tt (own-of old new _ new_is) (parked-of old new _ new_is) seen)
 install-planned old new before after journal tenant text program install.Memory now ready fits tenanted fixed accepted is stands counted new_is =
     let seen : new.seen ≡ old.seen = ap (λ (s : Session). s.seen) new_is in
     sends old new before after journal [] (request.Install text) (answer.Installed (install_told install.Memory))
-    (stands-nil after journal stands) fixed refl fits (own-of old new _ new_is) (ap (λ (s : Session). s.conf) new_is)
+    (stands-nil after journal stands) fixed refl fits (own-of old new _ new_is) (parked-of old new _ new_is) (ap (λ (s : Session). s.conf) new_is)
     (omega (arith, seen, fits.seen, length-append journal [])) (ap (λ (s : Session). s.phase) new_is ∙ ready) (ap (λ (s : Session). s.phase) new_is ∙ ready) tt
     (λ state was. record {
       next = state;
       step = steps.installs_nothing tenant text (was.tenant ∙ tenanted);
-      stands = stands-still old new state was (own-of old new _ new_is) seen;
+      stands = stands-still old new state was (own-of old new _ new_is) (parked-of old new _ new_is) seen;
     })

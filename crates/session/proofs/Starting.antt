@@ -1,7 +1,7 @@
 -- The calls of a batch begin, one after another.
-use Rattle.std.specs.Prelude.{◌==◌, ◌||◌, Bool, true, false, IsTrue, slice_get, map, if◌then◌else◌}
+use Rattle.std.specs.Prelude.{◌==◌, ◌||◌, Bool, true, false, IsTrue, slice_get, map}
 use Rattle.std.specs.List.{AllByRecursion, list_any}
-use Rattle.std.proofs.Common.{◌≡◌, ◌≤◌, ◌<◌, ◌+◌, ◌⊎◌, ℕ, zero, suc, List, [], ◌∷◌, ◌++◌, length, take, Option, Some, None, refl, sym, subst, ap, ◌∙◌, inl, inr, arith, length-append}
+use Rattle.std.proofs.Common.{◌≡◌, ◌≤◌, ℕ, zero, suc, List, [], ◌∷◌, ◌++◌, length, take, Option, Some, None, refl, sym, subst, ap, ◌∙◌, inl, inr, arith, length-append}
 use Rattle.std.proofs.Math.Seq.{take-append_seam, take-length}
 use Rattle.std.proofs.lemmas.List.{take-append-le}
 use Rattle.std.proofs.lemmas.Option.{slice_get_within}
@@ -14,8 +14,9 @@ use Rattle.journal.specs.Granted.{granted}
 use Rattle.journal.proofs.Growing.{slice_get-append_one}
 use Rattle.journal.proofs.Versions.{slice_get-append_seam}
 use Rattle.task.specs.Extensions.{ExtValue}
+use Rattle.task.specs.Parking.{ParkedCall}
 use Rattle.task.specs.Turning.{Live, begun}
-use Rattle.book.specs.Ends.{IsShown, NamesExt}
+use Rattle.book.specs.Ends.{IsShown}
 use Rattle.book.specs.Standing.{BookValue}
 use Rattle.wire.specs.declared.items.Item.{Item}
 use Rattle.wire.specs.declared.items.Item.TheVariants as item
@@ -24,10 +25,12 @@ use Rattle.session.specs.declared.batch.Start.TheVariants as start
 use Rattle.session.specs.declared.plan.Begun.{Begun}
 use Rattle.session.specs.declared.session.Session.{Session}
 use Rattle.session.specs.Batches as batches
-use Rattle.session.specs.Batches.{AreItems, CanBegin, IsAlone, IsFree, IsItemAt, IsItemOf, IsRefusal, call_of, is_among, is_bad_budget}
-use Rattle.session.specs.Standing.{AreKept, Fits, HasBegun, Stands, tenant_of, terms_over}
-use Rattle.session.specs.Starting.{AllStart, IsBegun, IsRefused, Starts, begun_with, caller_of, item_so_far}
-use Rattle.session.specs.States.{Kept, State, is_of, kept_of}
+use Rattle.session.specs.Batches.{AreFree, AreItems, CanBegin, IsAlone, IsFree, IsFreeAt, IsFreeBut, IsItemAt, IsItemOf, IsRefusal, IsUnparked, call_of, is_among, is_bad_budget}
+use Rattle.session.specs.Keeping.{call_in}
+use Rattle.session.specs.Standing.{Fits, HasBegun, Stands, tenant_of, terms_over}
+use Rattle.session.specs.Starting.{AllStart, Starts, begun_with, caller_of, item_so_far}
+use Rattle.session.specs.States.{Kept, State, kept_of}
+use Rattle.session.proofs.Keeping.{free-of, kept-there}
 use Rattle.session.proofs.Longer.{found-longer}
 use Rattle.session.proofs.Telling.{now-shown}
 use Rattle.session.proofs.Planning.{seen-by}
@@ -48,36 +51,54 @@ pub callers-more : (calls : List Asked) (asked : Asked) → map caller_of (calls
 callers-more [] asked = refl
 callers-more (first ∷ calls) asked = ap (λ (rest : List ℕ). first.caller ∷ rest) (callers-more calls asked)
 
-free-by : (one : Kept) (found : Option Kept) (same : Bool) → IsTrue one.doubtful → IsFree found → IsFree (if same then Some one else found)
-free-by one found true doubtful free = doubtful
-free-by one found false doubtful free = free
+is-free : (found : Option Kept) → ((one : Kept) → found ≡ Some one → IsTrue one.doubtful) → IsFree found
+is-free None doubtful = tt
+is-free (Some one) doubtful = doubtful one refl
 
-free-of : (kept : List Kept) (caller : ℕ) → AreKept [] kept → IsFree (kept_of kept caller)
-free-of [] caller are = tt
-free-of (one ∷ others) caller are = free-by one (kept_of others caller) (is_of caller one) are.0 (free-of others caller are.1)
+alone : (session : Session) (state : State) (before : List Asked) (asked : Asked) → Stands session state
+    → IsUnparked session.parked before asked → IsAlone state before asked
+alone session state before asked stands unparked = record {
+  first = unparked.first;
+  free = is-free (kept_of state.kept asked.caller) (free-of session.parked state.kept asked.caller stands.kept unparked.free);
+}
 
-alone : (session : Session) (state : State) (before : List Asked) (asked : Asked) → Stands session state → is_among before asked.caller ≡ false
-    → IsAlone state before asked
-alone session state before asked stands first = record { first = first; free = free-of state.kept asked.caller stands.kept }
+pub unparked-so : (parked : List ParkedCall) (before : List Asked) (asked : Asked) → is_among before asked.caller ≡ false → call_in parked asked.caller ≡ None
+    → IsUnparked parked before asked
+unparked-so parked before asked first free = record { first = first; free = free }
 
 pub starts-repeated : (session : Session) (book : BookValue) (journal : List Entry) (tenant : TenantId) (before : List Asked) (asked : Asked)
     → is_among before asked.caller ≡ true → Starts session book journal tenant before asked (start.Refused item.Repeated)
 starts-repeated session book journal tenant before asked among = record {
   is = λ state stands. batches.repeated among;
   refusal = tt;
+  free = tt;
+}
+
+pub starts-busy : (session : Session) (book : BookValue) (journal : List Entry) (tenant : TenantId) (before : List Asked) (asked : Asked) (one : ParkedCall)
+    → is_among before asked.caller ≡ false → call_in session.parked asked.caller ≡ Some one
+    → Starts session book journal tenant before asked (start.Refused (item.Busy one.call.number))
+starts-busy session book journal tenant before asked one first found = record {
+  is = λ state stands.
+      let kept = kept-there session.parked state.kept asked.caller one stands.kept found in
+      subst (λ (p : ParkedCall). IsItemOf (terms_over session book) tenant journal state before asked (item.Busy p.call.number)) (sym kept.is)
+      (batches.busy kept.one first kept.found);
+  refusal = tt;
+  free = tt;
 }
 
 pub starts-bad : (session : Session) (book : BookValue) (journal : List Entry) (tenant : TenantId) (before : List Asked) (asked : Asked)
-    → is_among before asked.caller ≡ false → is_bad_budget asked.budget ≡ true
+    → IsUnparked session.parked before asked → is_bad_budget asked.budget ≡ true
     → Starts session book journal tenant before asked (start.Refused item.BadBudget)
-starts-bad session book journal tenant before asked first bad = record {
-  is = λ state stands. batches.bad_budget (alone session state before asked stands first) bad;
+starts-bad session book journal tenant before asked unparked bad = record {
+  is = λ state stands. batches.bad_budget (alone session state before asked stands unparked) bad;
   refusal = tt;
+  free = unparked;
 }
 
 pub starts-memory : (session : Session) (book : BookValue) (journal : List Entry) (tenant : TenantId) (before : List Asked) (asked : Asked)
-    → Starts session book journal tenant before asked (start.Refused item.Memory)
-starts-memory session book journal tenant before asked = record { is = λ state stands. batches.no_memory; refusal = tt }
+    → IsUnparked session.parked before asked → Starts session book journal tenant before asked (start.Refused item.Memory)
+starts-memory session book journal tenant before asked unparked =
+    record { is = λ state stands. batches.no_memory; refusal = tt; free = unparked }
 
 past-none : {A : Type 0} (xs : List A) (i : ℕ) → slice_get xs i ≡ None → length xs ≤ i
 past-none [] i is = omega arith
@@ -85,33 +106,35 @@ past-none (x ∷ xs) zero is = absurd cc
 past-none (x ∷ xs) (suc i) is = let rest = past-none xs i is in omega (arith, rest)
 
 pub starts-absent : (session : Session) (book : BookValue) (journal : List Entry) (tenant : TenantId) (before : List Asked) (asked : Asked) (count now : ℕ)
-    → Fits session journal book.grants → is_among before asked.caller ≡ false → is_bad_budget asked.budget ≡ false
+    → Fits session journal book.grants → IsUnparked session.parked before asked → is_bad_budget asked.budget ≡ false
     → count ≡ length (texts_of journal tenant) → now ≡ length journal → slice_get (texts_of journal tenant) asked.ext.0 ≡ None
     → Starts session book journal tenant before asked (start.Refused (item.NoExtension count now))
-starts-absent session book journal tenant before asked count now fits first good counted now_is none = record {
+starts-absent session book journal tenant before asked count now fits unparked good counted now_is none = record {
   is = λ state stands.
-      batches.no_extension count now (alone session state before asked stands first) good
+      batches.no_extension count now (alone session state before asked stands unparked) good
       (subst (λ (m : ℕ). IsShown journal state.seen m) (sym now_is) (now-shown journal state.seen (seen-by session state journal book.grants stands fits)))
       (subst (λ (m : ℕ). count ≡ length (texts_of (take m journal) tenant)) (sym now_is)
       (counted ∙ ap (λ (all : List Entry). length (texts_of all tenant)) (sym (take-length journal))))
       (let past = past-none (texts_of journal tenant) asked.ext.0 none in omega (arith, past, counted));
   refusal = tt;
+  free = unparked;
 }
 
 pub starts-begun : (session : Session) (book : BookValue) (journal : List Entry) (tenant : TenantId) (before : List Asked) (asked : Asked) (ext : ExtValue) (task : Live)
-    → is_among before asked.caller ≡ false → is_bad_budget asked.budget ≡ false
+    → IsUnparked session.parked before asked → is_bad_budget asked.budget ≡ false
     → Some ext.text ≡ slice_get (texts_of journal tenant) asked.ext.0 → IsAccepted ext.text ext.program
     → task ≡ begun (call_of tenant asked) ext (granted book.grants journal tenant)
     → Starts session book journal tenant before asked (start.Began task)
-starts-begun session book journal tenant before asked ext task first good found accepted is = record {
+starts-begun session book journal tenant before asked ext task unparked good found accepted is = record {
   ext = ext;
   named = record { found = sym found; accepted = accepted };
   task_is = is;
   may = λ state stands. record {
-    alone = alone session state before asked stands first;
+    alone = alone session state before asked stands unparked;
     budget = good;
     there = slice_get_within (texts_of journal tenant) asked.ext.0 ext.text (sym found);
   };
+  free = unparked;
 }
 
 -- ---- All of them
@@ -133,6 +156,7 @@ no-calls session book journal tenant = record {
   each = λ state stands. record { many = refl; each = λ place given found. absurd cc };
   refusals = tt;
   have_begun = tt;
+  free = λ place given found. absurd cc;
 }
 
 item-row : (session : Session) (book : BookValue) (journal : List Entry) (tenant : TenantId) (before : List Asked) (asked : Asked) (given : Start) (state : State)
@@ -218,6 +242,36 @@ begun-more session book journal tenant calls place asked (start.Began task) begu
           (subst (λ (front : List Asked). CanBegin tenant journal state front asked) (sym (take-append_seam calls (asked ∷ []))) (starts.may state stands));
     })
 
+free-so-far : (session : Session) (book : BookValue) (journal : List Entry) (tenant : TenantId) (before : List Asked) (asked : Asked) (given : Start)
+    → Starts session book journal tenant before asked given → IsFreeBut session.parked before asked (item_so_far given)
+free-so-far session book journal tenant before asked (start.Refused refusal) starts = starts.free
+free-so-far session book journal tenant before asked (start.Began task) starts = starts.free
+
+free-more : (session : Session) (book : BookValue) (journal : List Entry) (tenant : TenantId) (calls : List Asked) (items : List Item) (asked : Asked) (given : Start)
+    → length items ≡ length calls → Starts session book journal tenant calls asked given → AreFree session.parked calls items
+    → AreFree session.parked (calls ++ asked ∷ []) (items ++ item_so_far given ∷ [])
+free-more session book journal tenant calls items asked given many starts free place one found =
+    elim (slice_get-append_one items (item_so_far given) place one found) [
+      | inl h ↦
+          let old = free place one h.0 in
+          let within : place ≤ length calls = omega (arith, h.1, many) in
+          record {
+            asked = old.asked;
+            at = found-longer calls (asked ∷ []) place old.asked old.at;
+            free = subst (λ (front : List Asked). IsFreeBut session.parked front old.asked one) (front-same calls asked place within) old.free;
+          }
+      | inr h ↦
+          let place_is : place ≡ length calls = h.0 ∙ many in
+          record {
+            asked = asked;
+            at = subst (λ (m : ℕ). slice_get (calls ++ asked ∷ []) m ≡ Some asked) (sym place_is) (slice_get-append_seam calls asked []);
+            free = subst (λ (m : ℕ). IsFreeBut session.parked (take m (calls ++ asked ∷ [])) asked one) (sym place_is)
+                (subst (λ (front : List Asked). IsFreeBut session.parked front asked one) (sym (take-append_seam calls (asked ∷ [])))
+                (subst (λ (i : Item). IsFreeBut session.parked calls asked i) h.1
+                (free-so-far session book journal tenant calls asked given starts)));
+          }
+    ]
+
 -- one more call of the batch begins, or is refused
 pub starts-more : (session : Session) (book : BookValue) (journal : List Entry) (tenant : TenantId) (calls : List Asked) (items : List Item) (begun_calls : List Begun) (asked : Asked) (given : Start)
     → tenant_of session.admitted ≡ Some tenant → length items ≡ length calls → Starts session book journal tenant calls asked given
@@ -227,4 +281,5 @@ starts-more session book journal tenant calls items begun_calls asked given admi
   each = λ state stands. items-more session book journal tenant calls items asked given state stands starts (all.each state stands);
   refusals = all-push IsRefusal items (item_so_far given) all.refusals (so-far-refusal session book journal tenant calls asked given starts);
   have_begun = begun-more session book journal tenant calls (length items) asked given begun_calls admitted many starts all.have_begun;
+  free = free-more session book journal tenant calls items asked given many starts all.free;
 }

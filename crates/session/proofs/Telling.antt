@@ -1,9 +1,11 @@
 -- Texts, and the first message.
-use Rattle.std.specs.Prelude.{max, IsTrue, true, false, slice_get}
+use Rattle.std.specs.Prelude.{max, IsTrue, slice_get}
 use Rattle.std.proofs.Common.{◌≡◌, ◌≤◌, ◌⊎◌, ℕ, zero, suc, List, [], ◌∷◌, ◌++◌, length, take, Option, Some, None, refl, sym, subst, ap, ◌∙◌, inl, inr, arith, length-append}
 use Rattle.std.proofs.Math.Seq.{take-length}
 use Rattle.sp_base.specs.declared.numbers.TenantId.{TenantId}
+use Rattle.sp_base.specs.declared.limits.TheConstants.{MOST_PARKED}
 use Rattle.records.specs.GrantsList.{RightsList}
+use Rattle.task.specs.Parking.{ParkedCall}
 use Rattle.journal.specs.declared.entry.Entry.{Entry}
 use Rattle.journal.specs.Folds.{texts_of}
 use Rattle.journal.specs.Granted.{granted}
@@ -16,12 +18,13 @@ use Rattle.wire.specs.declared.requests.Request.TheVariants as request
 use Rattle.session.specs.declared.plan.Plan.TheVariants as plan
 use Rattle.session.specs.declared.session.Admitted.{Admitted}
 use Rattle.session.specs.declared.session.Session.{Session}
-use Rattle.session.specs.Standing.{Fits, HasOwnRights, IsOpen, IsWithin, Planned, tenant_of}
+use Rattle.session.specs.Keeping.{IsOfEach, call_in}
+use Rattle.session.specs.Standing.{AreKept, Fits, HasOwnRights, IsOpen, IsWithin, ParkedFit, Planned, tenant_of}
 use Rattle.session.specs.States.{after_answer, knows, seen_in_text}
 use Rattle.session.specs.Steps as steps
 use Rattle.session.specs.Steps.{IsTextAnswer}
 use Rattle.session.proofs.LongerSteps.{text-longer}
-use Rattle.session.proofs.Planning.{at-now, now-in, seen-by, sends, stands-after, stands-nil, stays-fixed}
+use Rattle.session.proofs.Planning.{at-now, seen-by, sends, stands-after, stands-nil, stays-fixed}
 
 -- the moment of a journal is shown by itself
 pub now-shown : (journal : List Entry) (seen : ℕ) → seen ≤ length journal → IsShown journal seen (length journal)
@@ -66,17 +69,27 @@ pub text-planned : (old new : Session) (book : BookValue) (journal : List Entry)
     → Planned old new book book journal (request.TextOf (record { 0 = number })) (plan.Send (answer.Text given))
 text-planned old new book journal tenant number given ready fits tenanted stands is within new_is =
     let own : new.admitted ≡ old.admitted = ap (λ (s : Session). s.admitted) new_is in
+    let parked : new.parked ≡ old.parked = ap (λ (s : Session). s.parked) new_is in
     let seen : new.seen ≡ seen_in_text old.seen given = ap (λ (s : Session). s.seen) new_is in
     let by : seen_in_text old.seen given ≤ length journal = text-seen tenant journal old.seen number given fits.seen (is old.seen fits.seen) in
     sends old new book book journal [] (request.TextOf (record { 0 = number })) (answer.Text given)
-    (stands-nil book journal stands) (stays-fixed book) refl fits own (ap (λ (s : Session). s.conf) new_is)
+    (stands-nil book journal stands) (stays-fixed book) refl fits own parked (ap (λ (s : Session). s.conf) new_is)
     (omega (arith, seen, by, length-append journal [])) (ap (λ (s : Session). s.phase) new_is ∙ ready) (ap (λ (s : Session). s.phase) new_is ∙ ready) within
     (λ state was. record {
       next = after_answer state (answer.Text given) state.kept;
       step = steps.tells_text tenant number given (was.tenant ∙ tenanted)
           (text-longer tenant journal [] state.seen number given (is state.seen (seen-by old state journal book.grants was fits)));
-      stands = stands-after old new state (answer.Text given) was own seen;
+      stands = stands-after old new state (answer.Text given) was own parked seen;
     })
+
+-- before a Hello no call is parked
+none-fit : (own : Option Admitted) (journal : List Entry) (parked : List ParkedCall) → tenant_of own ≡ None → ParkedFit own journal parked → parked ≡ []
+none-fit None journal parked none fit = fit
+none-fit (Some admitted) journal parked none fit = absurd cc
+
+nobody-fits : (admitted : Admitted) (journal : List Entry) (parked : List ParkedCall) → parked ≡ [] → ParkedFit (Some admitted) journal parked
+nobody-fits admitted journal parked none caller one found =
+    let clash : None ≡ Some one = ap (λ (calls : List ParkedCall). call_in calls caller) (sym none) ∙ found in absurd cc
 
 -- a tenant with its key is admitted with its rights
 pub hello-planned : (old new : Session) (book : BookValue) (journal : List Entry) (tenant : TenantId) (secret now : ℕ) (own rights : RightsList)
@@ -88,6 +101,7 @@ hello-planned old new book journal tenant secret now own rights ready fits first
     let seen : new.seen ≡ max old.seen now = ap (λ (s : Session). s.seen) new_is in
     let admitted : new.admitted ≡ Some (record { tenant = tenant; rights = own }) = ap (λ (s : Session). s.admitted) new_is in
     let opened : IsOpen new = ap (λ (s : Session). s.phase) new_is ∙ ready in
+    let parked : new.parked ≡ old.parked = ap (λ (s : Session). s.parked) new_is in
     record {
       later = [];
       stands = stands-nil book journal stands;
@@ -95,6 +109,11 @@ hello-planned old new book journal tenant secret now own rights ready fits first
       fits = record {
         rights = subst (λ (a : Option Admitted). HasOwnRights a (journal ++ []) book.grants) (sym admitted) own_is;
         seen = omega (arith, seen, now_is, fits.seen, length-append journal []);
+        each = subst IsOfEach (sym parked) fits.each;
+        few = subst (λ (calls : List ParkedCall). length calls ≤ MOST_PARKED) (sym parked) fits.few;
+        parked = subst (λ (a : Option Admitted). ParkedFit a (journal ++ []) new.parked) (sym admitted)
+            (nobody-fits (record { tenant = tenant; rights = own }) (journal ++ []) new.parked
+            (parked ∙ none-fit old.admitted journal old.parked first fits.parked));
       };
       conf = ap (λ (s : Session). s.conf) new_is;
       does = (
@@ -108,7 +127,8 @@ hello-planned old new book journal tenant secret now own rights ready fits first
             stands = record {
               tenant = ap tenant_of (sym admitted);
               seen = ap (λ (s : ℕ). max s now) was.seen ∙ sym seen;
-              kept = was.kept;
+              map = was.map;
+              kept = subst (λ (calls : List ParkedCall). AreKept calls state.kept) (sym parked) was.kept;
             };
           };
           ends = opened;

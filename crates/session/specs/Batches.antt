@@ -1,5 +1,5 @@
 -- How the calls of a batch are answered, each by its item.
-use Rattle.std.specs.Prelude.{◌≡◌, ◌≤◌, ◌<◌, ℕ, ◌==◌, ◌||◌, Bool, true, false, IsTrue, List, [], ◌∷◌, ◌++◌, length, Option, Some, None, nat_lt, slice_get, take}
+use Rattle.std.specs.Prelude.{◌≡◌, ◌≤◌, ◌<◌, ℕ, ◌==◌, ◌||◌, Bool, false, IsTrue, List, [], ◌∷◌, ◌++◌, length, Option, Some, None, nat_lt, slice_get, take}
 use Rattle.std.specs.List.{list_any}
 use Rattle.sp_base.specs.declared.calls.Asked.{Asked}
 use Rattle.sp_base.specs.declared.calls.Call.{Call}
@@ -16,7 +16,9 @@ use Rattle.book.specs.declared.ends.End.TheVariants as ended
 use Rattle.book.specs.Ends.{IsShown, ItemHolds, NamesExt}
 use Rattle.wire.specs.declared.items.Item.{Item}
 use Rattle.wire.specs.declared.items.Item.TheVariants as item
+use Rattle.session.specs.Keeping.{call_in}
 use Rattle.session.specs.States.{Kept, State, Terms, kept_of, parked_count, without, without_doubtful}
+use Rattle.task.specs.Parking.{ParkedCall}
 
 -- a call that a tenant asks for
 abbrev pub call_of : TenantId → Asked → Call
@@ -98,6 +100,26 @@ pub record IsItemAt (terms : Terms) (tenant : TenantId) (journal : List Entry) (
   pub asked : Asked
   pub at : slice_get calls place ≡ Some asked
   pub is : IsItemOf terms tenant journal state (take place calls) asked given
+
+-- no earlier call of the batch has this caller, and no call of it is parked
+pub record IsUnparked (parked : List ParkedCall) (earlier : List Asked) (asked : Asked) : Type 0 where
+  pub first : is_among earlier asked.caller ≡ false
+  pub free : call_in parked asked.caller ≡ None
+
+-- so of every call but one that is repeated or busy
+abbrev pub IsFreeBut : List ParkedCall → List Asked → Asked → Item → Type 0
+IsFreeBut parked earlier asked item.Repeated = Unit {0}
+IsFreeBut parked earlier asked (item.Busy number) = Unit {0}
+IsFreeBut parked earlier asked _ = IsUnparked parked earlier asked
+
+pub record IsFreeAt (parked : List ParkedCall) (calls : List Asked) (place : ℕ) (given : Item) : Type 0 where
+  pub asked : Asked
+  pub at : slice_get calls place ≡ Some asked
+  pub free : IsFreeBut parked (take place calls) asked given
+
+abbrev pub AreFree : List ParkedCall → List Asked → List Item → Type 0
+AreFree parked calls items =
+    (place : ℕ) (given : Item) → slice_get items place ≡ Some given → IsFreeAt parked calls place given
 
 -- each call of the batch has its item, in the batch's order
 pub record AreItems (terms : Terms) (tenant : TenantId) (journal : List Entry) (state : State) (calls : List Asked) (items : List Item) : Type 0 where

@@ -1,5 +1,5 @@
 -- What a journal says of a session, every longer one says too.
-use Rattle.std.specs.Prelude.{◌≡◌, ℕ, List, ◌++◌}
+use Rattle.std.specs.Prelude.{ℕ, List, ◌++◌}
 use Rattle.sp_base.specs.declared.calls.Asked.{Asked}
 use Rattle.sp_base.specs.declared.calls.Call.{Call}
 use Rattle.sp_base.specs.declared.calls.Policy.{Policy}
@@ -10,7 +10,8 @@ use Rattle.book.specs.Ends.{ItemHolds}
 use Rattle.wire.specs.declared.answers.Answer.{Answer}
 use Rattle.wire.specs.declared.requests.Request.{Request}
 use Rattle.session.specs.declared.session.Session.{Session}
-use Rattle.session.specs.Standing.{Awaits, Fits}
+use Rattle.session.specs.declared.plan.Ask.{Ask}
+use Rattle.session.specs.Standing.{AskFits, Awaits, Fits}
 use Rattle.session.specs.States.{State, Terms}
 use Rattle.session.specs.Steps.{Step}
 
@@ -23,5 +24,7 @@ pub record LongerJournalsExplainAsMuch : Type 0 where
       → Step terms journal state message given next → Step terms (journal ++ later) state message given next
   pub fits : (session : Session) (journal later : List Entry) (grants : GrantsList)
       → Fits session journal grants → Fits session (journal ++ later) grants
+  pub asks : (session : Session) (given : Ask) (journal later : List Entry) (grants : GrantsList)
+      → AskFits session given journal grants → AskFits session given (journal ++ later) grants
   pub waits : (session : Session) (terms : Terms) (journal later : List Entry) (calls : List Asked)
       → Awaits session terms journal calls → Awaits session terms (journal ++ later) calls

@@ -1,8 +1,12 @@
 pub use Rattle.book.specs.Ends
 pub mod States
+pub mod Keeping
+pub mod Sending
 pub mod Batches
 pub mod Steps
 pub mod Seeing
 pub mod Standing
 pub mod Starting
+pub mod Filling
+pub mod Fetching
 pub mod Laws

@@ -1,5 +1,5 @@
--- How the calls of a batch begin, and how their items are filled in.
-use Rattle.std.specs.Prelude.{◌≡◌, ◌<◌, ℕ, List, [], ◌∷◌, ◌++◌, length, Some, slice_get, slice_set, take}
+-- How the calls of a batch begin.
+use Rattle.std.specs.Prelude.{◌≡◌, ℕ, List, [], ◌∷◌, ◌++◌}
 use Rattle.std.specs.List.{AllByRecursion}
 use Rattle.sp_base.specs.declared.calls.Asked.{Asked}
 use Rattle.sp_base.specs.declared.numbers.TenantId.{TenantId}
@@ -7,7 +7,6 @@ use Rattle.journal.specs.declared.entry.Entry.{Entry}
 use Rattle.journal.specs.Granted.{granted}
 use Rattle.task.specs.Extensions.{ExtValue}
 use Rattle.task.specs.Turning.{Live, begun}
-use Rattle.book.specs.declared.ends.CallEnd.{CallEnd}
 use Rattle.book.specs.Ends.{NamesExt}
 use Rattle.book.specs.Standing.{BookValue}
 use Rattle.wire.specs.declared.items.Item.{Item}
@@ -16,8 +15,8 @@ use Rattle.session.specs.declared.batch.Start.{Start}
 use Rattle.session.specs.declared.batch.Start.TheVariants as start
 use Rattle.session.specs.declared.plan.Begun.{Begun}
 use Rattle.session.specs.declared.session.Session.{Session}
-use Rattle.session.specs.Batches.{AreItems, CanBegin, IsItemOf, IsRefusal, call_of, item_of}
-use Rattle.session.specs.Standing.{HasBegun, Stands, terms_over}
+use Rattle.session.specs.Batches.{AreFree, AreItems, CanBegin, IsFreeBut, IsItemOf, IsRefusal, IsUnparked, call_of}
+use Rattle.session.specs.Standing.{HasBegun, Stands, parked_in, terms_over}
 use Rattle.session.specs.States.{State}
 
 abbrev pub caller_of : Asked → ℕ
@@ -28,6 +27,7 @@ pub record IsRefused (session : Session) (book : BookValue) (journal : List Entr
   pub is : (state : State) → Stands session state
       → IsItemOf (terms_over session book) tenant journal state earlier asked given
   pub refusal : IsRefusal given
+  pub free : IsFreeBut (parked_in session) earlier asked given
 
 -- a call began as this task
 pub record IsBegun (session : Session) (book : BookValue) (journal : List Entry) (tenant : TenantId) (earlier : List Asked) (asked : Asked) (task : Live) : Type 0 where
@@ -35,6 +35,7 @@ pub record IsBegun (session : Session) (book : BookValue) (journal : List Entry)
   pub named : NamesExt journal (call_of tenant asked) ext
   pub task_is : task ≡ begun (call_of tenant asked) ext (granted book.grants journal tenant)
   pub may : (state : State) → Stands session state → CanBegin tenant journal state earlier asked
+  pub free : IsUnparked (parked_in session) earlier asked
 
 abbrev pub Starts : Session → BookValue → List Entry → TenantId → List Asked → Asked → Start → Type 0
 Starts session book journal tenant earlier asked (start.Refused given) = IsRefused session book journal tenant earlier asked given
@@ -55,8 +56,4 @@ pub record AllStart (session : Session) (book : BookValue) (journal : List Entry
   pub each : (state : State) → Stands session state → AreItems (terms_over session book) tenant journal state calls items
   pub refusals : AllByRecursion IsRefusal items
   pub have_begun : AllByRecursion (HasBegun session book.grants journal calls) begun_calls
-
--- the items with those of the calls that have ended
-abbrev pub filled : List Item → List CallEnd → List Item
-filled items [] = items
-filled items (one ∷ ends) = filled (slice_set items one.place (item_of one.end)) ends
+  pub free : AreFree (parked_in session) calls items

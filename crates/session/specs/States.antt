@@ -1,12 +1,11 @@
 -- What a session has come to: its tenant, the calls that were handed back to its client, and the part of
 -- the journal that it has seen.
-use Rattle.std.specs.Prelude.{◌≡◌, ℕ, ◌+◌, ◌==◌, ◌&&◌, max, Bool, true, false, List, [], ◌∷◌, Option, Some, None, if◌then◌else◌}
+use Rattle.std.specs.Prelude.{◌≡◌, ℕ, ◌+◌, ◌==◌, ◌&&◌, max, Bool, List, [], ◌∷◌, Option, Some, None, if◌then◌else◌}
 use Rattle.std.specs.List.{list_any}
 use Rattle.sp_base.specs.declared.numbers.TenantId.{TenantId}
 use Rattle.sp_base.specs.declared.reads.ReadItem.{ReadItem}
 use Rattle.records.specs.GrantsList.{GrantsList}
 use Rattle.task.specs.Parking.{ParkedCall}
-use Rattle.book.specs.Ends.{MomentsRise}
 use Rattle.wire.specs.declared.answers.Answer.{Answer}
 use Rattle.wire.specs.declared.answers.Answer.TheVariants as answer
 use Rattle.wire.specs.declared.answers.FetchAnswer.{FetchAnswer}
@@ -57,6 +56,11 @@ is_of caller kept = kept.parked.call.caller.number == caller
 abbrev pub kept_of : List Kept → ℕ → Option Kept
 kept_of [] caller = None
 kept_of (kept ∷ others) caller = if is_of caller kept then Some kept else kept_of others caller
+
+-- at most one call of each caller
+abbrev pub IsMap : List Kept → Type 0
+IsMap [] = Unit {0}
+IsMap (kept ∷ others) = (kept_of others kept.parked.call.caller.number ≡ None) × IsMap others
 
 -- without the call of a caller
 abbrev pub without : List Kept → ℕ → List Kept

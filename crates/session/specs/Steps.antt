@@ -1,6 +1,6 @@
 -- Explained sessions: when an answer to a request is one that the journal and what the session has seen
 -- account for.
-use Rattle.std.specs.Prelude.{◌≡◌, ◌≤◌, ◌<◌, ℕ, ◌+◌, ◌/◌, ◌++◌, Bool, true, false, not, IsTrue, List, [], ◌∷◌, length, map, Option, Some, None, slice_get, take, if◌then◌else◌}
+use Rattle.std.specs.Prelude.{◌≡◌, ◌≤◌, ◌<◌, ℕ, ◌/◌, ◌++◌, Bool, true, false, not, IsTrue, List, [], ◌∷◌, length, map, Option, Some, None, slice_get, take}
 use Rattle.sp_base.specs.declared.calls.Asked.{Asked}
 use Rattle.sp_base.specs.declared.numbers.TableId.{TableId}
 use Rattle.sp_base.specs.declared.numbers.TenantId.{TenantId}

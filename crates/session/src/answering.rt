@@ -37,7 +37,7 @@ impl Session {
     }
 
     /// The part of the journal up to this moment was shown.
-    fn show(&mut self, moment: u64)
+    pub(crate) fn show(&mut self, moment: u64)
         ensures { self.new ≡ record self.old { seen = max self.old.seen moment } }
     {
         self.seen = self.seen.max(moment);
@@ -75,8 +75,7 @@ impl Session {
     pub(crate) fn make(&mut self, text: &[u8]) -> Result<Ask, Answer>
         requires open { IsOpen self.old }
         ensures refused { IfErr result (Refused self.old self.new (request.Install text.now)) }
-        ensures asked { IfOk result (Asks self.old (request.Install text.now)) }
-        ensures same { OnOk result (self.new ≡ self.old) }
+        ensures asked { IfOk result (Asks self.old self.new (request.Install text.now)) }
     {
         if self.admitted.is_none() {
             return Err(self.end(Fault::OutOfTurn));
@@ -90,20 +89,6 @@ impl Session {
                 }))
             }
             Err(ExtFault::Memory) => Err(Answer::Installed(InstallAnswer::Memory)),
-        }
-    }
-
-    /// Answers a Finish. No call is parked.
-    pub(crate) fn finish(&mut self) -> Answer
-        requires open { IsOpen self.old }
-        ensures { (caller number : ℕ) (outcome : Outcome) (writes : List Write)
-            → Refused self.old self.new (request.Finish caller (record { 0 = number }) outcome writes) result }
-    {
-        if self.admitted.is_none() {
-            return self.end(Fault::OutOfTurn);
-        }
-        Answer::Finished {
-            item: Item::NotParked,
         }
     }
 
@@ -141,7 +126,12 @@ impl Session {
         match request {
             Request::Hello { .. } => self.stop(Fault::OutOfTurn),
             Request::Batch { calls } => self.begin(book, tenant, calls),
-            Request::Fetch { .. } => Plan::Send(Answer::Fetched(FetchAnswer::NotParked)),
+            Request::Fetch {
+                caller,
+                number,
+                table,
+                key,
+            } => self.fetch(book, tenant, caller, number, table, key),
             Request::Put { table, key, value } => self.put(book, tenant, table, key, value),
             Request::TextOf { ext } => self.text_of(book, tenant, ext),
             Request::Bye => {

@@ -1,19 +1,18 @@
-//! The calls of a batch before their first turn, and behind their last.
+//! The calls of a batch before their first turn.
 
-ghost use Rattle.std.specs.Prelude.{◌≡◌, ◌≤◌, ◌<◌, ◌++◌, ◌∷◌, [], IfOk, OnOk, List, length, map, slice_set};
+ghost use Rattle.std.specs.Prelude.{◌≡◌, ◌≤◌, ◌<◌, ◌++◌, ◌∷◌, [], IfOk, OnOk, List, length, map};
 ghost use Rattle.std.specs.List.{AllByRecursion};
 ghost use Rattle.sp_base.specs.declared.calls.Asked.{Asked};
 ghost use Rattle.sp_base.specs.Limits.{IsArguments};
 ghost use Rattle.journal.specs.declared.entry.Entry.{Entry};
 ghost use Rattle.book.specs.Standing.{StandsFor};
 ghost use Rattle.session.specs.Batches.{call_of, is_bad_budget};
-ghost use Rattle.session.specs.Starting.{AllStart, Starts, begun_with, caller_of, filled, item_so_far};
+ghost use Rattle.session.specs.Starting.{AllStart, Starts, begun_with, caller_of, item_so_far};
 ghost use Rattle.session.specs.Standing.{Fits, tenant_of};
 
 use crate::plan::Begun;
 use crate::session::Session;
-use crate::told::item_of;
-use book::{Book, CallEnd};
+use book::Book;
 use sp_base::{Asked, Call, Caller, MOST_BUDGET, Memory, TenantId};
 use std::alloc::Global;
 use task::Task;
@@ -80,6 +79,11 @@ fn begin_one(
 {
     if earlier.contains(&asked.caller) {
         return Start::Refused(Item::Repeated);
+    }
+    if let Some(parked) = session.parked.look(asked.caller) {
+        return Start::Refused(Item::Busy {
+            number: parked.call().number,
+        });
     }
     if is_bad_budget(asked.budget) {
         return Start::Refused(Item::BadBudget);
@@ -152,24 +156,4 @@ pub fn start_all(
         callers.push(caller)?;
     }
     Ok(started)
-}
-
-/// Sets the item of the call at a place.
-fn set_item(items: &mut Vec<Item>, place: u16, item: Item)
-    ensures { items.new.items ≡ slice_set items.old.items place item }
-{
-    if (place as usize) < items.len() {
-        items[place as usize] = item;
-    }
-}
-
-/// The items with those of the calls that have ended.
-pub fn fill(items: Vec<Item>, ends: Vec<CallEnd>) -> Vec<Item>
-    ensures { result.items ≡ filled items.items ends.items }
-{
-    let mut items = items;
-    for CallEnd { place, end } in ends {
-        set_item(&mut items, place, item_of(end));
-    }
-    items
 }

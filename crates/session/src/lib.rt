@@ -8,8 +8,11 @@
 mod answering;
 mod batch;
 mod conf;
+mod ending;
 mod fault;
 mod laws;
+mod parked_calls;
+mod parking;
 mod plan;
 mod session;
 mod told;

@@ -1,3 +1,4 @@
+use rw_set::Sent;
 use task::{Ext, Task};
 use wire::{Answer, Request};
 
@@ -8,6 +9,8 @@ pub enum Ask {
     Plain(Request),
     /// An Install, whose text is accepted.
     Install(Ext),
+    /// A Finish, whose run is no longer parked.
+    Finish(Sent),
 }
 
 /// What is to be done about a request.

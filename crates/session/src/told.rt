@@ -1,12 +1,13 @@
 //! How answers of the book are told to the client, and what they show of the journal.
 
 ghost use Rattle.std.specs.Prelude.{◌≡◌};
-ghost use Rattle.session.specs.Batches.{commit_item, item_of};
+ghost use Rattle.session.specs.Batches.{commit_item};
 ghost use Rattle.session.specs.Seeing.{AllCounted, IsCounted};
 ghost use Rattle.session.specs.States.{seen_in_item, seen_in_items, seen_in_reads};
-ghost use Rattle.session.specs.Steps.{install_told, put_told};
+ghost use Rattle.session.specs.Steps.{install_told, put_told, refused_item};
 
-use book::{Commit, End, Install, Put};
+use book::{Commit, Install, Put};
+use parked::Refused;
 use sp_base::ReadItem;
 use wire::{InstallAnswer, Item, PutAnswer};
 
@@ -31,7 +32,7 @@ pub fn install_told(install: Install) -> InstallAnswer
     }
 }
 
-fn commit_item(commit: Commit) -> Item
+pub fn commit_item(commit: Commit) -> Item
     ensures { result ≡ commit_item commit }
 {
     match commit {
@@ -57,25 +58,14 @@ fn commit_item(commit: Commit) -> Item
     }
 }
 
-/// How the end of a call is told.
-pub fn item_of(end: End) -> Item
-    ensures { result ≡ item_of end }
+/// How it is told that what a client sent is not taken.
+pub fn refused_item(why: Refused) -> Item
+    ensures { result ≡ refused_item why }
 {
-    match end {
-        End::Settled(commit) => commit_item(commit),
-        End::Pushed {
-            load,
-            spent,
-            parked,
-        } => {
-            let (_, reads) = parked.parts();
-            Item::Pushed {
-                load,
-                spent,
-                reads: reads.into_reads(),
-            }
-        }
-        End::Memory => Item::Memory,
+    match why {
+        Refused::Shape(code) => Item::Shape { code },
+        Refused::Foreign(table) => Item::Foreign { table },
+        Refused::Memory => Item::Memory,
     }
 }
 
@@ -91,7 +81,7 @@ fn seen_in_reads(seen: u64, reads: &[ReadItem]) -> u64
 }
 
 /// The number of entries seen, after an item that shows an entry below the greatest number.
-fn seen_in_item(seen: u64, item: &Item) -> u64
+pub fn seen_in_item(seen: u64, item: &Item) -> u64
     ensures { IsCounted item.now → result ≡ seen_in_item seen item.now }
 {
     match item {

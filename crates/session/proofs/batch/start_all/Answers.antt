@@ -6,7 +6,7 @@ use Rattle.sp_base.specs.declared.calls.Asked.{Asked}
 use Rattle.sp_base.specs.Limits.{IsArguments}
 use Rattle.wire.specs.declared.items.Item.{Item}
 use Rattle.session.specs.declared.plan.Begun.{Begun}
-use Rattle.session.specs.Starting.{AllStart, begun_with, item_so_far}
+use Rattle.session.specs.Starting.{AllStart, item_so_far}
 use Rattle.session.proofs.Starting.{callers-more, starts-more}
 use Rattle.session.proofs.batch.start_all.Goals as goal
 

@@ -16,7 +16,13 @@ returns-then-is_none-clause-refused c =
 pub returns-in-Ok-clause-asked : goal.returns-in-Ok-clause-asked
 returns-in-Ok-clause-asked c = record {
   stands_for = ap (λ (text : List ℕ). request.Install text) c.in-Ok.ensures.accepted.text_is;
+  admitted = refl;
   asked = admitted-some c.args.self.now.admitted c.if-is_none.ensures;
+  ready = c.requires.open;
+  still = λ state was. was;
+  fits = λ journal grants fits. fits;
+  ask_fits = λ journal grants fits. tt;
+  conf = refl;
 }
 
 pub returns-in-Err-Rejected-clause-refused : goal.returns-in-Err-Rejected-clause-refused

@@ -1,5 +1,5 @@
 -- The put is answered as the book does.
-use Rattle.std.proofs.Common.{List, sym, subst}
+use Rattle.std.proofs.Common.{sym, subst}
 use Rattle.wire.specs.declared.answers.Answer.TheVariants as answer
 use Rattle.wire.specs.declared.answers.PutAnswer.{PutAnswer}
 use Rattle.wire.specs.declared.requests.Request.TheVariants as request

@@ -1,0 +1,13 @@
+pub mod Lengths
+pub mod Held
+pub mod Reading
+pub mod Turns
+pub mod Passing
+pub mod Ways
+pub mod Replying
+pub mod Batching
+pub mod Answering
+pub mod Telling
+pub mod Asking
+pub mod Finishing
+pub mod Pieces

@@ -1,0 +1,4 @@
+pub mod Hearing
+pub mod Running
+pub mod Sendable
+pub mod Batches
