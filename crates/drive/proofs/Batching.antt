@@ -148,4 +148,4 @@ none-handed-back grants limit journal since begun_calls [] are = refl
 none-handed-back grants limit journal since begun_calls (one ∷ ends) are =
     let own : is_handed_back one.end ≡ 0 = here-kept one.end are.0.is.stays in
     let others : handed_back ends ≡ 0 = none-handed-back grants limit journal since begun_calls ends are.1 in
-    ap (λ (n : ℕ). n + handed_back ends) own ∙ others
+    omega (arith, own, others)

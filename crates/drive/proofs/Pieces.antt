@@ -4,23 +4,38 @@ use Rattle.std.specs.Bool.{OnFalse}
 use Rattle.std.proofs.Common.{◌≡◌, ℕ, Bool, List, [], ◌∷◌, ◌++◌, Option, Some, None, refl, sym, subst, ap, ◌∙◌}
 use Rattle.sp_base.specs.Spelling.{frame}
 use Rattle.journal.specs.declared.entry.Entry.{Entry}
-use Rattle.book.specs.Standing.{BookValue, StandsFor}
+use Rattle.records.specs.GrantsList.{GrantsList}
+use Rattle.book.specs.Standing.{BookValue, KeepsFixed, StandsFor}
 use Rattle.framing.specs.Framing.{Framing}
 use Rattle.wire.specs.declared.answers.Answer.{Answer}
 use Rattle.wire.specs.Answers as spelling
 use Rattle.session.specs.declared.fault.Fault.TheVariants as fault
 use Rattle.session.specs.declared.session.Session.{Session}
-use Rattle.session.specs.Standing.{Stands, ended_now, terms_over}
+use Rattle.session.specs.Standing.{Fits, Stands, ended_now, terms_over}
 use Rattle.session.specs.States.{State, Terms}
 use Rattle.session.specs.Steps.{faulted}
 use Rattle.drive.specs.declared.driving.Driven.{Driven}
 use Rattle.drive.specs.Hearing as hearing
+use Rattle.session.proofs.LongerSteps.{fits-longer}
 use Rattle.drive.specs.Hearing.{AllHeard, AreFramed, Drives, EndsPiece, Heard, Hears, Leads, MayBeDriven, frames_of}
+use Rattle.drive.specs.Running.{StandsOn}
 use Rattle.drive.proofs.Answering.{said-more}
+use Rattle.drive.proofs.Replying.{fits-each}
 
 -- a session that has ended stands where it stood
 stands-ended : (session : Session) (state : State) → Stands session state → Stands (ended_now session) state
-stands-ended session state was = record { tenant = was.tenant; seen = was.seen; kept = was.kept }
+stands-ended session state was = record { tenant = was.tenant; seen = was.seen; map = was.map; kept = was.kept }
+
+-- another session may be driven over the book as before
+pub other-driven : (other : Session) (before after : BookValue) (journal : List Entry) → StandsFor before journal → StandsOn after journal
+    → KeepsFixed before after → MayBeDriven other before → MayBeDriven other after
+other-driven other before after journal stands on fixed may = record {
+  ready = may.ready;
+  fits = fits-each other after (journal ++ on.later) on.stands
+      (subst (λ (g : GrantsList). Fits other (journal ++ on.later) g) (sym fixed.grants)
+      (fits-longer other journal on.later before.grants (may.fits journal stands)));
+  audit = may.audit ∙ sym fixed.audit;
+}
 
 -- how all bodies were heard, and then the piece ended, from one state
 leads-on : (terms : Terms) (journal : List Entry) (state : State) (bodies : List (List ℕ)) (broken : Option ℕ) (now new : Session) (said : List ℕ) (stopped : Bool) (driven : Driven)

@@ -2,7 +2,7 @@
 use Rattle.std.proofs.Common.{ℕ, List, sym, subst}
 use Rattle.drive.specs.declared.driving.Driven.{Driven}
 use Rattle.drive.specs.Hearing.{EndsPiece, Hears}
-use Rattle.drive.proofs.Pieces.{piece-driven, piece-ready}
+use Rattle.drive.proofs.Pieces.{other-driven, piece-driven, piece-ready}
 use Rattle.drive.proofs.driving.drive.Goals as goal
 
 pub returns-clause-driven : goal.returns-clause-driven
@@ -20,3 +20,18 @@ pub returns-clause-ready : goal.returns-clause-ready
 returns-clause-ready c =
     piece-ready c.answer_all.new.session c.end_piece.new.session c.answer_all.new.book c.bodies_in.new.framer.broken c.in_ok-ended.ended
     c.answer_all.new.said.items c.in_ok-stopped.stopped c.end_piece.new.said.items c.in_ok-stopped.ensures.ends c.in_ok-ended.ensures.ready
+
+pub returns-in_err-ended-clause-others : goal.returns-in_err-ended-clause-others
+returns-in_err-ended-clause-others c = λ other may.
+    other-driven other c.args.book.now c.answer_all.new.book c.journal-journal.result.now.entries c.journal-journal.ensures
+    (c.answer_all.ensures.stands c.journal-journal.result.now.entries c.journal-journal.ensures) c.answer_all.ensures.fixed may
+
+pub returns-in_err-stopped-clause-others : goal.returns-in_err-stopped-clause-others
+returns-in_err-stopped-clause-others c = λ other may.
+    other-driven other c.args.book.now c.answer_all.new.book c.journal-journal.result.now.entries c.journal-journal.ensures
+    (c.answer_all.ensures.stands c.journal-journal.result.now.entries c.journal-journal.ensures) c.answer_all.ensures.fixed may
+
+pub returns-clause-others : goal.returns-clause-others
+returns-clause-others c = λ other may.
+    other-driven other c.args.book.now c.answer_all.new.book c.journal-journal.result.now.entries c.journal-journal.ensures
+    (c.answer_all.ensures.stands c.journal-journal.result.now.entries c.journal-journal.ensures) c.answer_all.ensures.fixed may
