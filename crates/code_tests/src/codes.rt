@@ -1,8 +1,8 @@
 //! The code of each form, worked out by hand from the rules: the statements of `main`, or a whole program
 //! that begins with `fn`, and then what its code is.
 
-use super::shown::{code_of, shown};
-use std::alloc::Global;
+use super::shown::shown;
+use super::texts::{code_of, parts, text_of};
 use std::test::Fail;
 
 /// Every instruction stands here at least once. Jumps are numbered from the function's first instruction.
@@ -23,21 +23,13 @@ get(5, "k") { some s => { resp(s); } none => { let n: int = 1; } } return 0; => 
 multiget(5, "ab", 1) { some s => { resp(s); } none => { } } return 0; => 0 1 Charge(1) Num(5) Str(Blob { bytes: [97, 98] }) Num(1) Num(0) Multi(16) JumpFalse(13) Store(0) Charge(1) Load(0) Resp Drop(0) Jump(5) Store(0) Drop(0) Jump(5) Charge(1) Num(0) Return Num(0) Return
 fn f(n: int, t: bool) -> int { return n; } fn g() -> int { return 1; } fn main() -> int { let x: int = f(7, !true); let y: int = g(); return y; } => 2 2 Charge(1) Move(0) Return Num(0) Return | 0 0 Charge(1) Num(1) Return Num(0) Return | 0 2 Charge(1) Num(7) Truth(true) Not Call(0) Store(0) Charge(1) Call(1) Store(1) Charge(1) Move(1) Return Drop(0) Num(0) Return"#;
 
-/// The text of a case.
-fn text_of(alloc: Global, case: &str) -> Result<String, Fail> {
-    if case.starts_with("fn ") {
-        return Ok(format!(in alloc; "{case}\n")?);
-    }
-    Ok(format!(in alloc; "fn main() -> int {{ {case} }}\n")?)
-}
-
 #[test]
 fn each_form_has_its_instructions(rt: HostRuntime) -> Result<(), Fail> {
     let alloc = rt.alloc();
     for line in CODES.lines() {
-        let (case, wanted) = line.rsplit_once(" => ").ok_or("no case")?;
+        let (case, wanted) = parts(line)?;
         let text = text_of(alloc, case)?;
-        let code = code_of(alloc, text.as_bytes())?;
+        let code = code_of(alloc, text.as_str())?;
         let shown = shown(alloc, &code)?;
         assert_eq!(rt; shown.as_str(), wanted, "{case}");
     }

@@ -1,4 +1,16 @@
-//! The worked extensions, as a tenant writes them. They stand in `examples/` with their comments.
+//! The worked extensions, as a tenant writes them. The longer ones stand in `examples/` with their
+//! comments.
+
+/// Those on one line: a look-up, a counter, two hops, a deletion, a blind write, a pair that may be torn, a
+/// read of the own write, and more writes than a run may have.
+pub const SHORT: &str = r#"get(5, args()) { some s => { resp(s); } none => { } } return 0;
+let n: int = 0; get(6, args()) { some s => { n = u64(s, 0); } none => { } } let b: buf = alloc(6, args(), 8); set8(b, 0, n + 1); put(b); return n + 1;
+get(5, args()) { some s => { multiget(5, s, 1) { some u => { resp(u); } none => { } } } none => { } } return 0;
+del(6, args()); return 0;
+let b: buf = alloc(6, "k", 1); set(b, 0, byte(args(), 0)); put(b); return 0;
+let a: int = 0; let c: int = 0; get(6, "a") { some s => { a = u64(s, 0); } none => { } } get(6, "b") { some s => { c = u64(s, 0); } none => { } } while a != c { } return 0;
+let b: buf = alloc(6, "k", 1); put(b); get(6, "k") { some s => { return byte(s, 0) + 5; } none => { } } return 9;
+let i: int = 0; while i < 65 { let k: temp = temp(1); set(k, 0, i); let b: buf = alloc(6, view(k), 0); put(b); i = i + 1; } return 0;"#;
 
 const BOUNDED_LIST: &str = r#"fn main() -> int {
   let key: slice = sub(args(), 0, 8);

@@ -1,6 +1,6 @@
 //! The largest programs that a text can spell have their code where there is memory.
 
-use super::shown::{code_of, program_of};
+use super::texts::{code_of, program_of};
 use gen_code::is_sound;
 use gen_compile::compile;
 use std::alloc::Global;
@@ -49,18 +49,18 @@ fn the_largest_programs_have_sound_code(rt: HostRuntime) -> Result<(), Fail> {
     let alloc = rt.alloc();
     let long = longest(alloc)?;
     assert_eq!(rt; long.len(), 16_384);
-    let code = code_of(alloc, long.as_bytes())?;
+    let code = code_of(alloc, long.as_str())?;
     assert!(rt; is_sound(&code));
     // Three instructions each for the `let`, 4,086 assignments and the `return`, a drop and the two behind.
     let main = code.functions.get(0).ok_or("no main")?;
     assert_eq!(rt; main.ops.len(), 3 * 4088 + 3);
 
-    let wide = code_of(alloc, widest(alloc)?.as_bytes())?;
+    let wide = code_of(alloc, widest(alloc)?.as_str())?;
     let main = wide.functions.get(31).ok_or("no main")?;
     assert_eq!(rt; main.locals, 256);
     assert!(rt; is_sound(&wide));
 
-    let program = program_of(alloc, deepest(alloc)?.as_bytes())?;
+    let program = program_of(alloc, deepest(alloc)?.as_str())?;
     assert!(rt; is_sound(&compile(alloc, &program)?));
     Ok(())
 }

@@ -1,5 +1,5 @@
-use super::examples::EXAMPLES;
-use super::shown::code_of;
+use super::examples::{EXAMPLES, SHORT};
+use super::texts::{code_of, text_of};
 use gen_code::{Code, CodeFn, Op, is_sound};
 use sp_base::Memory;
 use sqlite_items::Items;
@@ -19,9 +19,13 @@ fn lone(alloc: Global, ops: Vec<Op>) -> Result<Code, Memory> {
 
 #[test]
 fn the_code_of_the_worked_extensions_is_sound(rt: HostRuntime) -> Result<(), Fail> {
+    let alloc = rt.alloc();
     for text in EXAMPLES {
-        let code = code_of(rt.alloc(), text.as_bytes())?;
-        assert!(rt; is_sound(&code), "{text}");
+        assert!(rt; is_sound(&code_of(alloc, text)?), "{text}");
+    }
+    for line in SHORT.lines() {
+        let text = text_of(alloc, line)?;
+        assert!(rt; is_sound(&code_of(alloc, text.as_str())?), "{line}");
     }
     Ok(())
 }

@@ -9,15 +9,11 @@ mod checks;
 #[cfg(test)]
 mod evaluating;
 #[cfg(test)]
-mod meanings;
-#[cfg(test)]
 mod notation;
 #[cfg(test)]
 mod parsing;
 #[cfg(test)]
 mod printing;
-#[cfg(test)]
-mod running;
 #[cfg(test)]
 mod tokens;
 #[cfg(test)]

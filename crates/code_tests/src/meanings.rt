@@ -2,7 +2,9 @@
 //! out by hand from the rules of the language. A case stands on one line: the statements of `main`,
 //! or a whole program that begins with `fn`, and then what is wanted.
 
-use super::running::{expect, expect_all, expect_runs, parts, run};
+use super::machine::Case;
+use super::running::{expect, expect_all, expect_runs, run};
+use super::texts::parts;
 use ext_mean::Run;
 use std::alloc::Global;
 use std::test::Fail;
@@ -202,7 +204,7 @@ fn each_construct_has_its_charge(rt: HostRuntime) -> Result<(), Fail> {
     for line in CHARGES.lines() {
         let (case, units) = parts(line)?;
         let units = units.parse::<u32>()?;
-        match run(alloc, case, b"", units)? {
+        match run(&rt, alloc, case, b"", units)? {
             Run::Done { used, .. } => assert_eq!(rt; used, units, "{case}"),
             _ => assert!(rt; false, "{case}"),
         }
@@ -227,7 +229,7 @@ fn a_65th_place_is_one_too_many(rt: HostRuntime) -> Result<(), Fail> {
     let again = format!(in alloc;
         "{SIXTY_FOUR} let b: buf = alloc(6, \"?\", 0); put(b); return 0;"
     )?;
-    match run(alloc, again.as_str(), b"", 1000)? {
+    match run(&rt, alloc, again.as_str(), b"", 1000)? {
         Run::Done { writes, used, .. } => {
             assert_eq!(rt; writes.len(), 64);
             assert_eq!(rt; used, 390);
@@ -246,7 +248,7 @@ fn a_65th_place_is_one_too_many(rt: HostRuntime) -> Result<(), Fail> {
 fn limits_hold_to_the_last_byte(rt: HostRuntime) -> Result<(), Fail> {
     let alloc = rt.alloc();
     let full = "let b: temp = temp(4096); resp(view(b)); return 0;";
-    match run(alloc, full, b"", 1000)? {
+    match run(&rt, alloc, full, b"", 1000)? {
         Run::Done { reply, .. } => assert_eq!(rt; reply.bytes.len(), 4096),
         _ => assert!(rt; false),
     }
@@ -258,14 +260,18 @@ fn limits_hold_to_the_last_byte(rt: HostRuntime) -> Result<(), Fail> {
     ] {
         expect(&rt, alloc, case, &key, 1000, "1 trap 3")?;
     }
-    match run(alloc, LOOK_UP, &key[..64], 1000)? {
+    match run(&rt, alloc, LOOK_UP, &key[..64], 1000)? {
         Run::Wants { used, .. } => assert_eq!(rt; used, 17),
         _ => assert!(rt; false),
     }
     let wide = "multiget(5, args(), 65) { some s => { } none => { } } return 0;";
     expect(&rt, alloc, wide, &key, 1000, "1 trap 5")?;
     let turning = "let i: int = 0; while true { i = i + 1; } return 0;";
-    expect(&rt, alloc, turning, b"", 100_000, "spent")
+    let turning = Case::of(alloc, turning, b"", 100_000)?;
+    let wanted = turning.by_evaluator(alloc)?;
+    assert_eq!(rt; wanted.as_str(), "spent\n");
+    assert_eq!(rt; turning.by_machine(alloc, 1_000)?.as_str(), wanted.as_str());
+    Ok(())
 }
 
 /// Adds a function that calls the one before it inside the most brackets: its body, 30 blocks and
