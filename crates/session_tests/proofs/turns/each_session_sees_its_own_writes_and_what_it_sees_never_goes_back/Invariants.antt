@@ -1,6 +1,0 @@
--- Both sessions may be driven on.
-use Rattle.drive.specs.Hearing.{MayBeDriven}
-use Rattle.session_tests.proofs.turns.each_session_sees_its_own_writes_and_what_it_sees_never_goes_back.Given as goal
-
-abbrev pub invariant-loop-line : goal.invariant-loop-line
-invariant-loop-line l = record { one : MayBeDriven l.one l.book; other : MayBeDriven l.other l.book }
