@@ -1,4 +1,4 @@
-ghost use Rattle.std.specs.Prelude.{◌≡◌, ◌≢◌, ◌≤◌, [], IfOk, OnOk, OnErr, length, map};
+ghost use Rattle.std.specs.Prelude.{◌≡◌, ◌≢◌, ◌≤◌, [], ◌∷◌, IfOk, OnOk, OnErr, length, map};
 ghost use Rattle.std.specs.List.{AllByRecursion};
 ghost use Rattle.sp_base.specs.Limits.{IsArguments};
 ghost use Rattle.sp_base.specs.declared.calls.Call.{Call};
@@ -12,10 +12,11 @@ use crate::known::{Known, Said};
 use crate::later::CallList;
 use crate::next::Next;
 use crate::stage::Stage;
-use sp_base::{Call, Memory, Rights, TenantId};
+use sp_base::{Call, ExtNo, Memory, Rights, TenantId};
 use std::alloc::Global;
 use std::marker::Model;
 use std::mem;
+use task::Ext;
 use wire::{Answer, Request};
 
 /// The client of one tenant, over one link that it does not hold. A call that is pushed back to it
@@ -52,6 +53,17 @@ impl ClientCore {
             known: Known::new(alloc, rights),
             stage: Stage::Idle,
         }
+    }
+
+    /// Gives the client an extension, with its number, so that it need not ask for that text. Without
+    /// memory nothing changes.
+    pub fn know(&mut self, number: ExtNo, ext: &Ext) -> Result<(), Memory>
+        ensures ok { OnOk result (self.new ≡ record self.old {
+          known = record self.old.known { exts = (number, ext.now) ∷ self.old.known.exts };
+        }) }
+        ensures err { OnErr result (self.new ≡ self.old) }
+    {
+        self.known.know(number, ext)
     }
 
     /// The request that asks these calls. Without memory nothing changes.

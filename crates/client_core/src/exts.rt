@@ -1,16 +1,16 @@
-ghost use Rattle.std.specs.Prelude.{◌≡◌, ◌∷◌, [], IfOk, OnOk};
+ghost use Rattle.std.specs.Prelude.{◌≡◌, ◌∷◌, [], OnErr, OnOk};
 ghost use Rattle.std.specs.Option.{option_copied};
 ghost use Rattle.client_core.specs.Talking.{ext_in};
 
+use crate::given_ext::GivenExt;
 use sp_base::{ExtNo, Memory};
 use std::alloc::Global;
 use std::marker::Model;
-use task::Ext;
 
 /// The extensions whose texts a client was given, with their numbers. Contracts see their list.
 #[derive(Drop)]
 pub struct Exts {
-    items: Vec<(ExtNo, Ext)>,
+    items: Vec<(ExtNo, GivenExt)>,
 }
 
 impl Model for Exts {
@@ -38,7 +38,7 @@ impl Exts {
     }
 
     /// The extension with this number, where its text was given.
-    pub fn get(&self, number: ExtNo) -> Option<&Ext>
+    pub fn get(&self, number: ExtNo) -> Option<&GivenExt>
         ensures { option_copied result ≡ ext_in self.now number }
     {
         for (known, ext) in &self.items {
@@ -49,9 +49,10 @@ impl Exts {
         None
     }
 
-    /// Keeps one extension more, in front of the others.
-    pub fn add(&mut self, number: ExtNo, ext: Ext) -> Result<(), Memory>
-        ensures { OnOk result (self.new ≡ (number, ext) ∷ self.old) }
+    /// Keeps one extension more, in front of the others. Without memory nothing changes.
+    pub fn add(&mut self, number: ExtNo, ext: GivenExt) -> Result<(), Memory>
+        ensures ok { OnOk result (self.new ≡ (number, ext) ∷ self.old) }
+        ensures err { OnErr result (self.new ≡ self.old) }
     {
         self.items.insert(0, (number, ext))?;
         Ok(())

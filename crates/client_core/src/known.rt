@@ -1,19 +1,20 @@
 //! How a client carries a pushed call: what it makes of each answer, by what it knows.
 
-ghost use Rattle.std.specs.Prelude.{◌≡◌, ◌++◌, ◌∷◌, [], Some, IfOk};
+ghost use Rattle.std.specs.Prelude.{◌≡◌, ◌++◌, ◌∷◌, [], Some, IfOk, OnErr, OnOk};
 ghost use Rattle.client_core.specs.Finishing.{IsSayable};
 ghost use Rattle.client_core.specs.Hearing.{HearsFor, HearsGiven, HearsText, Leads, answers_heard, end_heard, ended_heard, fetch_heard, record_heard};
 ghost use Rattle.client_core.specs.Talking.{Known as KnownValue, after_run, carries, ends, ext_in, fault, finishing, pushed_reads, running, starts};
 
 use crate::answered::{CallAnswer, CallAnswers};
 use crate::exts::Exts;
+use crate::given_ext::GivenExt;
 use crate::later::{CallList, Later};
 use crate::next::Next;
 use crate::stage::{Awaited, Carried, Stage};
 use crate::turns::{are_in_turn, pushed};
 use ext_eval::eval;
 use ext_mean::Run;
-use sp_base::{Blob, Key, Memory, Outcome, ReadItem, Rights, TableId, Writes};
+use sp_base::{Blob, ExtNo, Key, Memory, Outcome, ReadItem, Rights, TableId, Writes};
 use std::alloc::Global;
 use std::marker::Model;
 use task::{Ext, ExtFault};
@@ -93,8 +94,18 @@ impl Known {
         }
     }
 
+    /// Keeps an extension with its number, as if its text were given. Without memory nothing changes.
+    pub fn know(&mut self, number: ExtNo, ext: &Ext) -> Result<(), Memory>
+        ensures ok { OnOk result (self.new ≡ record self.old { exts = (number, ext.now) ∷ self.old.exts }) }
+        ensures err { OnErr result (self.new ≡ self.old) }
+    {
+        let text = Blob::of(self.alloc, ext.text())?;
+        let given = GivenExt::of(text, ext)?;
+        self.exts.add(number, given)
+    }
+
     /// Runs a call from its arguments, with its whole budget, on the records that were given for it.
-    fn run(&self, carried: Carried, ext: &Ext) -> Result<Said, Memory>
+    fn run(&self, carried: Carried, ext: &GivenExt) -> Result<Said, Memory>
         requires { ext_in self.now.exts carried.call.ext ≡ Some ext.now }
         ensures says { IfOk result (λ said. said ≡ running self.now.rights carried ext.now) }
         ensures sayable { IfOk result (λ said. IsSayable self.now said) }
@@ -210,7 +221,7 @@ impl Known {
         ensures sayable { IfOk result (λ said. IsSayable self.new said) }
     {
         match answer {
-            Answer::Text(TextAnswer::Text(text)) => self.take_text(carried, &text),
+            Answer::Text(TextAnswer::Text(text)) => self.take_text(carried, text),
             Answer::Text(TextAnswer::NoExtension { count, at }) => {
                 self.end(carried, Item::NoExtension { count, at })
             }
@@ -220,13 +231,14 @@ impl Known {
     }
 
     /// Keeps the extension of a text that was asked for, and runs its call.
-    fn take_text(&mut self, carried: Carried, text: &Blob) -> Result<Said, Memory>
-        ensures hears { IfOk result (λ said. HearsGiven self.old carried (TextAnswer.Text text.now) said self.new) }
+    fn take_text(&mut self, carried: Carried, text: Blob) -> Result<Said, Memory>
+        ensures hears { IfOk result (λ said. HearsGiven self.old carried (TextAnswer.Text text) said self.new) }
         ensures sayable { IfOk result (λ said. IsSayable self.new said) }
     {
         match Ext::make(self.alloc, text.bytes()) {
             Ok(ext) => {
-                self.exts.add(carried.call.ext, ext)?;
+                let given = GivenExt::of(text, &ext)?;
+                self.exts.add(carried.call.ext, given)?;
                 self.start(carried)
             }
             Err(ExtFault::Rejected { .. }) => Ok(fault()),

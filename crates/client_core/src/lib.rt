@@ -6,6 +6,7 @@ mod answered;
 mod asking;
 mod client;
 mod exts;
+mod given_ext;
 mod known;
 mod later;
 mod next;

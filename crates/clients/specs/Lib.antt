@@ -1,4 +1,5 @@
 pub mod First
 pub mod Numbering
 pub mod Pushed
+pub mod Client
 pub mod Placing

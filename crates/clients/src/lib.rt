@@ -2,6 +2,7 @@
 #![tactic(auto)]
 
 mod callers;
+mod copies;
 mod pushed_call;
 mod pushed_calls;
 
