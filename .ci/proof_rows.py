@@ -3,7 +3,8 @@
 
 A clause is `CRATE/src/FILE.rt:FUNCTION:LABEL`, where LABEL is `ensures` for a clause without a name;
 a fact that a type keeps is `CRATE/src/FILE.rt:TYPE:LABEL`, where LABEL is a ghost field, or `invariant`.
-An edit is `CRATE!NAME`, a test is `CRATE/src/FILE.rt#FUNCTION`, a definition is `CRATE/specs/FILE.antt:NAME`.
+An edit is `CRATE!NAME`, a test is `CRATE/src/FILE.rt#FUNCTION`, a definition is `CRATE/specs/FILE.antt:NAME`, a file
+begins with `crates/`. A reference of another form that has one of their marks is stale too.
 """
 import pathlib
 import re
@@ -42,13 +43,11 @@ def clause(reference):
     source = text(CRATES / path)
     if source is None:
         return "no such file"
-    if path.endswith(".antt"):
-        return None
     if name[0].isupper():
         wanted = rf"ghost {re.escape(label)}\b"
         found = list(type_of(source, name))
     else:
-        wanted = r"(ensures|requires)\*? \{" if label == "ensures" else rf"(ensures|requires)\*? {re.escape(label)} \{{"
+        wanted = r"ensures\*? \{" if label == "ensures" else rf"ensures\*? {re.escape(label)} \{{"
         found = list(head_of(source, name))
     if not found:
         return f"no `{name}`"
@@ -87,9 +86,9 @@ def stale(reference):
         return edit(reference)
     if re.fullmatch(r"\w+/src/[\w/]+\.rt#\w+", reference):
         return test(reference)
-    if reference.startswith("crates/"):
+    if re.fullmatch(r"crates/[\w/.]+", reference):
         return None if (TOP / reference).exists() else "no such file"
-    return None
+    return "names none of these" if re.search(r"[/!#:]", reference) else None
 
 
 def main():
@@ -98,6 +97,9 @@ def main():
     for number, line in enumerate(text(page).splitlines(), 1):
         if not line.startswith("|"):
             continue
+        if line.count("`") % 2:
+            checked, failed = checked + 1, failed + 1
+            print(f"docs/PROOFS.md:{number}: a quote that does not end")
         for reference in re.findall(r"`([^`]+)`", line):
             checked += 1
             why = stale(reference)

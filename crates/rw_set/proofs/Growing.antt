@@ -2,12 +2,13 @@
 use Rattle.std.specs.List.{AllByRecursion, IsDistinct}
 use Rattle.std.proofs.Common.{◌≡◌, ◌<◌, Bool, true, false, List, [], ◌∷◌, ◌++◌, length, map, Option, Some, None, refl, arith, length-append, if◌then◌else◌}
 use Rattle.std.proofs.lemmas.Map.Keys.{IsDistinct-cons, IsDistinct-head, IsDistinct-tail}
+use Rattle.sp_base.specs.declared.limits.TheConstants.{MOST_READS}
 use Rattle.sp_base.specs.declared.reads.ReadItem.{ReadItem}
 use Rattle.sp_base.specs.Places.{Place, same_place}
 use Rattle.sp_base.specs.Spelling.{FitsOpt}
 use Rattle.ext_mean.specs.Views.{place_of}
 use Rattle.ext_mean.proofs.Places.{none-distinct}
-use Rattle.rw_set.specs.ReadLists.{IsReadList, most_reads, read_of}
+use Rattle.rw_set.specs.ReadLists.{IsReadList, read_of}
 
 -- what holds of the elements and of one more holds of all of them
 pub AllByRecursion-snoc : {X : Type 0} (P : X → Type 0) (xs : List X) (x : X) → AllByRecursion P xs → P x → AllByRecursion P (xs ++ x ∷ [])
@@ -43,7 +44,7 @@ pub no-reads : IsReadList []
 no-reads = record { distinct = none-distinct; few = omega arith; values = tt }
 
 pub read-list-grows : (reads : List ReadItem) (item : ReadItem) → IsReadList reads → read_of reads (place_of item) ≡ None
-    → length reads < most_reads → FitsOpt item.value → IsReadList (reads ++ item ∷ [])
+    → length reads < MOST_READS → FitsOpt item.value → IsReadList (reads ++ item ∷ [])
 read-list-grows reads item kept new room value = record {
   distinct = distinct-with reads item kept.distinct new;
   few = omega (arith, length-append reads (item ∷ []));

@@ -1,10 +1,11 @@
 -- What a read set keeps of its parts, from no reads on.
 use Rattle.std.proofs.Common.{◌≡◌, ◌<◌, ◌≤◌, ◌+◌, ℕ, List, [], ◌∷◌, ◌++◌, length, insert, None, refl, arith, length-append}
+use Rattle.sp_base.specs.declared.limits.TheConstants.{MOST_READS}
 use Rattle.sp_base.specs.declared.reads.ReadItem.{ReadItem}
 use Rattle.sp_base.specs.Spelling.{FitsOpt}
 use Rattle.ext_mean.specs.Views.{place_of}
 use Rattle.rw_set.specs.Order.{AreKept, BelongsAt, rank}
-use Rattle.rw_set.specs.ReadLists.{most_reads, read_of}
+use Rattle.rw_set.specs.ReadLists.{read_of}
 use Rattle.rw_set.specs.Weight.{weight_of_read}
 use Rattle.rw_set.proofs.Growing.{no-reads, read-list-grows}
 use Rattle.rw_set.proofs.Searching.{order-grows}
@@ -24,7 +25,7 @@ nothing-kept = record {
 }
 
 pub kept-grows : (reads : List ReadItem) (order : List ℕ) (weight : ℕ) (item : ReadItem) (at : ℕ) → AreKept reads order weight
-    → read_of reads (place_of item) ≡ None → length reads < most_reads → FitsOpt item.value → BelongsAt reads order (rank (place_of item)) at
+    → read_of reads (place_of item) ≡ None → length reads < MOST_READS → FitsOpt item.value → BelongsAt reads order (rank (place_of item)) at
     → weight_of_read item ≤ 4184 → AreKept (reads ++ item ∷ []) (insert order at (length reads)) (weight + weight_of_read item)
 kept-grows reads order weight item at kept new room value belongs bounded =
     let longer = length-append reads (item ∷ []) in

@@ -10,6 +10,3 @@ mod weight;
 pub use finished::Finished;
 pub use read_set::ReadSet;
 pub use sent::Sent;
-
-/// The most reads of one call: each costs 16 units of a budget of at most 100,000.
-pub const MOST_READS: usize = 6_250;

@@ -6,10 +6,9 @@ ghost use Rattle.ext_mean.specs.Views.{place_of};
 ghost use Rattle.rw_set.specs.ReadLists.{IsReadList, read_of};
 ghost use Rattle.rw_set.specs.Weight.{weight_of};
 
-use crate::MOST_READS;
 use crate::search::{find, place_for};
 use crate::weight::read_weight;
-use sp_base::{Key, Memory, ReadItem, Reads, TableId};
+use sp_base::{Key, MOST_READS, Memory, ReadItem, Reads, TableId};
 use std::alloc::Global;
 use std::marker::Model;
 

@@ -9,10 +9,6 @@ use Rattle.ext_check.specs.Checking.{IsAccepted, IsRefused}
 use Rattle.splinter.specs.declared.status.Status.{Status}
 use Rattle.splinter.specs.declared.status.Status.TheVariants as status
 
--- the most bytes of an extension's text
-abbrev pub most_text : ℕ
-most_text = 16384
-
 -- `ok F`, with the number of functions
 abbrev pub accepted_line : ℕ → List ℕ
 accepted_line functions = codes "ok " ++ (decimal functions ++ 10 ∷ [])

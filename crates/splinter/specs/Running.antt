@@ -18,10 +18,6 @@ use Rattle.splinter.specs.declared.status.Status.{Status}
 use Rattle.splinter.specs.declared.status.Status.TheVariants as status
 use Rattle.sim.specs.Laws.{ConflictsHaveMoved}
 
--- the most bytes of a script
-abbrev pub most_script : ℕ
-most_script = 4194304
-
 -- ---- the text of an input
 
 -- the input spells the script

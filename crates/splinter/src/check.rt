@@ -2,7 +2,7 @@
 
 ghost use Rattle.std.specs.Prelude.{◌≡◌, ◌≢◌, ◌+◌, length, IfSome, IfOk};
 ghost use Rattle.sp_outside.specs.Reading.{TookUpTo};
-ghost use Rattle.splinter.specs.Checks.{Checks, IsVerdict, JudgesText, accepted_line, most_text, refused_line};
+ghost use Rattle.splinter.specs.Checks.{Checks, IsVerdict, JudgesText, accepted_line, refused_line};
 ghost use Rattle.splinter.specs.Ending.{Causes, WritesNothing};
 
 use crate::status::Status;
@@ -10,12 +10,9 @@ use crate::verdict::{Verdict, write};
 use ext_check::{CheckFault, check_text};
 use ext_mean::Refusal;
 use report::Text;
-use sp_base::Memory;
+use sp_base::{MOST_TEXT, Memory};
 use sp_outside::{Input, Sink, Source, read_input};
 use std::alloc::Global;
-
-/// The most bytes of an extension's text.
-const MOST_TEXT: usize = 16_384;
 
 /// Checks the extension that the source gives: one line tells the number of its functions, or the line
 /// and the code of its first refusal. All is read before anything is written.
@@ -26,7 +23,7 @@ pub fn check_command<S: Source, K: Sink>(alloc: Global, source: &mut S, sink: &m
     // What the status tells of the input, where the source alone tells its content.
     ensures judged { IfSome (S.left source.old) (λ input. JudgesText result input) }
     // At most one byte more than a text may have is read.
-    ensures taken { IfSome (S.left source.old) (λ input. TookUpTo (most_text + 1) input (S.left source.new)) }
+    ensures taken { IfSome (S.left source.old) (λ input. TookUpTo (MOST_TEXT + 1) input (S.left source.new)) }
     // Why it stopped. Where no fault was counted it ends Ok or Refused, or for want of memory.
     ensures causes { Causes result (S.faults source.old) (S.faults source.new) (K.faults sink.old) (K.faults sink.new) }
     ensures command { result ≢ Status.Usage }

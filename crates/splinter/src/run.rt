@@ -3,19 +3,16 @@
 ghost use Rattle.std.specs.Prelude.{◌≡◌, ◌≢◌, ◌≤◌, ◌+◌, length, IfSome, IfOk};
 ghost use Rattle.sp_outside.specs.Reading.{TookUpTo};
 ghost use Rattle.splinter.specs.Ending.{Causes, WritesNothing};
-ghost use Rattle.splinter.specs.Running.{IsRunVerdict, JudgesScript, Runs, bad_line, most_script};
+ghost use Rattle.splinter.specs.Running.{IsRunVerdict, JudgesScript, Runs, bad_line};
 
 use crate::status::Status;
 use crate::text::text_of_play;
 use crate::verdict::{Verdict, write};
 use report::Text;
 use sched_text::{LineCode, ScriptFault, read_script};
-use sp_base::Memory;
+use sp_base::{MOST_SCRIPT, Memory};
 use sp_outside::{Input, Sink, Source, read_input};
 use std::alloc::Global;
-
-/// The most bytes of a script.
-const MOST_SCRIPT: usize = 4_194_304;
 
 /// Plays the script that the source gives, and writes its answers and its journal, or the line of its
 /// first bad line. All is read before anything is written.
@@ -26,14 +23,14 @@ pub fn run_command<S: Source, K: Sink>(alloc: Global, source: &mut S, sink: &mut
     // What the status tells of the input, where the source alone tells its content.
     ensures judged { IfSome (S.left source.old) (λ input. JudgesScript result input) }
     // At most one byte more than a script may have is read.
-    ensures taken { IfSome (S.left source.old) (λ input. TookUpTo (most_script + 1) input (S.left source.new)) }
+    ensures taken { IfSome (S.left source.old) (λ input. TookUpTo (MOST_SCRIPT + 1) input (S.left source.new)) }
     // Why it stopped. Where no fault was counted it ends Ok or Script, or for want of memory.
     ensures causes { Causes result (S.faults source.old) (S.faults source.new) (K.faults sink.old) (K.faults sink.new) }
     ensures command { result ≢ Status.Usage }
     ensures no_check { result ≢ Status.Refused }
     ensures nothing { WritesNothing result sink.old sink.new }
 {
-    match read_input(alloc, source, MOST_SCRIPT) {
+    match read_input(alloc, source, MOST_SCRIPT as usize) {
         Input::Whole(input) => match verdict_of(alloc, input.as_slice()) {
             Ok(verdict) => write(sink, verdict.text.bytes(), verdict.status),
             Err(Memory) => Status::Memory,

@@ -2,9 +2,9 @@
 
 ghost use Rattle.std.specs.Prelude.{◌≡◌, ◌↔◌, ◌+◌, ℕ, IfSome};
 ghost use Rattle.sp_outside.specs.Reading.{TookUpTo};
-ghost use Rattle.splinter.specs.Checks.{Checks, JudgesText, most_text};
+ghost use Rattle.splinter.specs.Checks.{Checks, JudgesText};
 ghost use Rattle.splinter.specs.Ending.{Causes, WritesNothing};
-ghost use Rattle.splinter.specs.Running.{JudgesScript, Runs, most_script};
+ghost use Rattle.splinter.specs.Running.{JudgesScript, Runs};
 ghost use Rattle.splinter.specs.Drilling.{Drills, HasPlay};
 ghost use Rattle.splinter.specs.Naming.{NamesOnly};
 ghost use Rattle.words.specs.Words.{AreCheck, AreDrill, AreRun};
@@ -13,6 +13,7 @@ use crate::check::check_command;
 use crate::drill::drill_command;
 use crate::run::run_command;
 use crate::status::Status;
+use sp_base::{MOST_SCRIPT, MOST_TEXT};
 use sp_outside::{Sink, Source};
 use std::alloc::Global;
 use words::{Command, read_words};
@@ -42,9 +43,9 @@ pub fn splinter<R, S: Source, K: Sink>(
     ensures drill_played { (count seed : ℕ) → AreDrill count seed words.now → HasPlay result count seed }
     // At most one byte more is read than a script or a text may have.
     ensures run_taken { AreRun words.now → IfSome (S.left source.old) (λ input.
-        TookUpTo (most_script + 1) input (S.left source.new)) }
+        TookUpTo (MOST_SCRIPT + 1) input (S.left source.new)) }
     ensures check_taken { AreCheck words.now → IfSome (S.left source.old) (λ input.
-        TookUpTo (most_text + 1) input (S.left source.new)) }
+        TookUpTo (MOST_TEXT + 1) input (S.left source.new)) }
     ensures drill_unread { (count seed : ℕ) → AreDrill count seed words.now → source.new ≡ source.old }
     // Why it stopped. Where no fault was counted `run` ends Ok or Script, `check` Ok or Refused and `drill`
     // Ok, or each for want of memory.

@@ -1,5 +1,6 @@
 -- The parts of a task: room for the record that it waits for, and the run that has ended.
 use Rattle.std.proofs.Common.{◌≡◌, ◌<◌, ℕ, Bool, true, false, List, [], ◌∷◌, length, Option, Some, None, refl, subst, arith, if◌then◌else◌}
+use Rattle.sp_base.specs.declared.limits.TheConstants.{MOST_READS}
 use Rattle.sp_base.specs.declared.numbers.TableId.{TableId}
 use Rattle.sp_base.specs.declared.outcomes.Outcome.{Outcome}
 use Rattle.sp_base.specs.declared.reads.ReadItem.{ReadItem}
@@ -9,7 +10,7 @@ use Rattle.ext_mean.specs.Laws.{place_in}
 use Rattle.ext_mean.specs.Outcomes.{EndsWith}
 use Rattle.ext_mean.specs.Views.{part, place_of, value_read}
 use Rattle.ext_mean.proofs.WantsProved.{are-due}
-use Rattle.rw_set.specs.ReadLists.{most_reads, read_of}
+use Rattle.rw_set.specs.ReadLists.{read_of}
 use Rattle.task.specs.declared.phase.Phase.TheVariants.{Waiting, Ended}
 use Rattle.task.specs.Tasks.{IsTask, Stands}
 use Rattle.task.specs.Turning.{Live, meaning_with}
@@ -35,7 +36,7 @@ wanted-unread live table key task wanted =
 
 -- and there is room for it
 pub wanted-room : (live : Live) (table : TableId) (key : List ℕ) → IsTask live → live.phase ≡ Waiting table key
-    → length live.reads < most_reads
+    → length live.reads < MOST_READS
 wanted-room live table key task wanted =
     let paid = wanted-paid live table key task wanted in
     let within = task.within in

@@ -1,7 +1,7 @@
 use crate::ext::Ext;
 use crate::task::Task;
-use rw_set::{MOST_READS, ReadSet};
-use sp_base::{Call, Memory, ReadItem};
+use rw_set::ReadSet;
+use sp_base::{Call, MOST_READS, Memory, ReadItem};
 use std::marker::Model;
 use std::sync::Arc;
 

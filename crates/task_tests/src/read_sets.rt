@@ -1,5 +1,5 @@
-use rw_set::{MOST_READS, ReadSet};
-use sp_base::{Key, ReadItem, TableId};
+use rw_set::ReadSet;
+use sp_base::{Key, MOST_READS, ReadItem, TableId};
 use std::test::Fail;
 
 /// As many reads as one set may have, added in no order: each is found, and they weigh 24 bytes each, the

@@ -1,5 +1,5 @@
 -- An input that is too long is refused at its first line.
-use Rattle.splinter.specs.Checks.{most_text}
+use Rattle.sp_base.specs.declared.limits.TheConstants.{MOST_TEXT}
 use Rattle.splinter.proofs.Checked.{told-too-long}
 use Rattle.splinter.proofs.Judging.{longer-judged, took-longer, took-whole}
 use Rattle.splinter.proofs.check.check_command.Goals as goal
@@ -17,9 +17,9 @@ returns-in-Longer-clause-judged g c =
 
 pub returns-in-Longer-clause-taken : goal.returns-in-Longer-clause-taken
 returns-in-Longer-clause-taken g c =
-    took-longer most_text (g.S.Source.left c.args.source.now) (g.S.Source.left c.read_input.new.source) c.in-Longer.ensures.told
+    took-longer MOST_TEXT (g.S.Source.left c.args.source.now) (g.S.Source.left c.read_input.new.source) c.in-Longer.ensures.told
 
 pub returns-in-Ok-clause-taken : goal.returns-in-Ok-clause-taken
 returns-in-Ok-clause-taken g c =
-    took-whole most_text (g.S.Source.left c.args.source.now) (g.S.Source.left c.read_input.new.source) c.in-Whole.input.items
+    took-whole MOST_TEXT (g.S.Source.left c.args.source.now) (g.S.Source.left c.read_input.new.source) c.in-Whole.input.items
     c.in-Whole.ensures.told c.in-Whole.ensures.within

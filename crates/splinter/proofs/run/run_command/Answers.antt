@@ -1,5 +1,5 @@
 -- The verdict on a whole input, and an input that is too long.
-use Rattle.splinter.specs.Running.{most_script}
+use Rattle.sp_base.specs.declared.limits.TheConstants.{MOST_SCRIPT}
 use Rattle.splinter.proofs.Judging.{took-longer, took-whole}
 use Rattle.splinter.proofs.Ran.{longer-judged, told-too-long}
 use Rattle.splinter.proofs.run.run_command.Goals as goal
@@ -17,9 +17,9 @@ returns-in-Longer-clause-judged g c =
 
 pub returns-in-Longer-clause-taken : goal.returns-in-Longer-clause-taken
 returns-in-Longer-clause-taken g c =
-    took-longer most_script (g.S.Source.left c.args.source.now) (g.S.Source.left c.read_input.new.source) c.in-Longer.ensures.told
+    took-longer MOST_SCRIPT (g.S.Source.left c.args.source.now) (g.S.Source.left c.read_input.new.source) c.in-Longer.ensures.told
 
 pub returns-in-Ok-clause-taken : goal.returns-in-Ok-clause-taken
 returns-in-Ok-clause-taken g c =
-    took-whole most_script (g.S.Source.left c.args.source.now) (g.S.Source.left c.read_input.new.source) c.in-Whole.input.items
+    took-whole MOST_SCRIPT (g.S.Source.left c.args.source.now) (g.S.Source.left c.read_input.new.source) c.in-Whole.input.items
     c.in-Whole.ensures.told c.in-Whole.ensures.within
