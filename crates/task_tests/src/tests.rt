@@ -1,5 +1,5 @@
 use crate::cases::{Case, End};
-use crate::turns::run;
+use crate::turns::{run, turns_until_killed};
 use rw_set::Finished;
 use sp_base::{Change, Outcome, Write};
 use std::alloc::Global;
@@ -27,6 +27,8 @@ const OWN_WRITE: &str =
 
 const READ_ALL: &str =
     "fn main() -> int { multiget(5, args(), 2) { some s => { } none => { } } return 0; }";
+
+const ENDLESS: &str = "fn main() -> int { while true { } return 0; }";
 
 const MANY_WRITES: &str =
     "fn main() -> int { let i: int = 0; while i < 65 { let k: temp = temp(1); set(k, 0, i); let b: buf = alloc(6, view(k), 0); put(b); i = i + 1; } return 0; }";
@@ -229,6 +231,26 @@ fn reads_until_the_budget_is_spent(rt: HostRuntime) -> Result<(), Fail> {
         if quantum > 0 {
             is_as_worked_out(&rt, &all, &run(&rt, alloc, &all, quantum)?);
         }
+    }
+    Ok(())
+}
+
+/// Each turn of one unit is one turn of the loop. A body that begins anew at each turn would make a
+/// hundred thousand million of them, for which no test has the time.
+#[test]
+fn endless_loops_are_killed_in_turns_of_one_unit(rt: HostRuntime) -> Result<(), Fail> {
+    let endless = Case {
+        text: ENDLESS,
+        args: b"",
+        budget: 100_000,
+        table: 5,
+        held: &[],
+        wants: &[],
+        ends: End::Killed,
+        puts: None,
+    };
+    for _call in 0..20u32 {
+        assert_eq!(rt; turns_until_killed(rt.alloc(), &endless)?, 100_000);
     }
     Ok(())
 }

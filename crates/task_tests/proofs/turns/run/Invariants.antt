@@ -1,7 +1,7 @@
--- Before each turn the task is ready.
+-- Before each turn both are ready.
 use Rattle.std.proofs.Common.{◌≡◌}
 use Rattle.task.specs.declared.phase.Phase.TheVariants.{Ready}
 use Rattle.task_tests.proofs.turns.run.Given as goal
 
 abbrev pub invariant-loop-turn : goal.invariant-loop-turn
-invariant-loop-turn g l = l.task.phase ≡ Ready
+invariant-loop-turn g l = (l.task.phase ≡ Ready) × (l.plain.phase ≡ Ready)

@@ -1,0 +1,7 @@
+-- Before each turn the task is ready.
+use Rattle.std.proofs.Common.{◌≡◌}
+use Rattle.task.specs.declared.phase.Phase.TheVariants.{Ready}
+use Rattle.task_tests.proofs.turns.turns_until_killed.Given as goal
+
+abbrev pub invariant-loop-turn : goal.invariant-loop-turn
+invariant-loop-turn l = l.task.phase ≡ Ready
