@@ -17,8 +17,8 @@ pauses-preserved c =
     λ ended. (let clash : paused.Wants c.in-Wants.table c.in-Wants.key ≡ paused.Ended = sym c.in-Wants.is ∙ ended in cc) in
     let waits : run.phase ≡ Waiting c.in-Wants.table c.in-Wants.key =
     subst (λ (answer : Paused). Tells answer run.phase) c.in-Wants.is c.resume-paused.ensures.told in
-    let fed : c.feed.new.self ≡ fed_with c.in-Some.value (Waiting c.in-Wants.table c.in-Wants.key) run =
-    c.feed.ensures.fed ∙ ap (λ (phase : Phase). fed_with c.in-Some.value phase run) waits in
+    let fed : c.feed.new.self ≡ fed_with c.in-Some.field-0.value (Waiting c.in-Wants.table c.in-Wants.key) run =
+    c.feed.ensures.fed ∙ ap (λ (phase : Phase). fed_with c.in-Some.field-0.value phase run) waits in
     record {
       stands = c.feed.ensures.stands code (c.resume-paused.ensures.stands unended);
       ready = ap (λ (next : Running). next.phase) fed;
