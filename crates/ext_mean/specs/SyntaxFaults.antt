@@ -8,7 +8,8 @@ use Rattle.ext_mean.specs.Tokens.{Tokens, tokens_of, IsGap, BeginsWith, is_blank
 use Rattle.ext_mean.specs.Grammar.{Whole}
 use Rattle.ext_mean.specs.Wording.{Slot, slot_tokens, program_slots, program_tokens}
 use Rattle.ext_mean.specs.Bounds.{IsTooLong, IsTooDeep, IsTooMany, AreBounded}
-use Rattle.ext_mean.specs.Text.{most_text, EndsLine}
+use Rattle.ext_mean.specs.Text.{EndsLine}
+use Rattle.sp_base.specs.declared.limits.TheConstants.{MOST_TEXT}
 
 -- some program of the grammar, without bounds, begins with these tokens
 abbrev pub IsBeginning : List Token → Type 0
@@ -66,30 +67,30 @@ pub record BreaksComment (gap words : List ℕ) (byte : ℕ) : Type 0 where
 -- The syntax fault of a text: its line and its code.
 pub data SyntaxFault (text : List ℕ) : ℕ → SyntaxCode → Type 0 where
   -- the text has more than 16,384 bytes
-  large : most_text < length text → SyntaxFault text 1 code.Long
+  large : MOST_TEXT < length text → SyntaxFault text 1 code.Long
   -- the text is empty
   empty : text ≡ [] → SyntaxFault text 1 code.Expected
   -- the last byte is no newline
-  unended : length text ≤ most_text → 0 < length text → (EndsLine text → ⊥) →
+  unended : length text ≤ MOST_TEXT → 0 < length text → (EndsLine text → ⊥) →
       SyntaxFault text (newlines text + 1) code.Expected
   -- no token begins behind those before it
   no_token : (byte : ℕ) (rest : List ℕ) (placed : List Placed) (gap : List ℕ) →
-      length text ≤ most_text → EndsLine text →
+      length text ≤ MOST_TEXT → EndsLine text →
       IsSoundUpTo text placed (gap ++ byte ∷ rest) → IsGap gap → HasNoToken byte rest →
       SyntaxFault text (line_behind 1 placed + newlines gap) code.Token
   -- a byte of a comment is none of the language
   bad_comment : (byte : ℕ) (rest words : List ℕ) (placed : List Placed) (gap : List ℕ) →
-      length text ≤ most_text → EndsLine text →
+      length text ≤ MOST_TEXT → EndsLine text →
       IsSoundUpTo text placed (gap ++ 0x23 ∷ (words ++ byte ∷ rest)) → BreaksComment gap words byte →
       SyntaxFault text (line_behind 1 placed + newlines gap) code.Token
   -- a token has a code behind those before it
   bad_token : {which : SyntaxCode} (placed : List Placed) (next : Placed) (rest behind : List ℕ) →
-      length text ≤ most_text → EndsLine text →
+      length text ≤ MOST_TEXT → EndsLine text →
       IsSoundUpTo text placed rest → Tokens text 1 (placed ++ next ∷ []) behind →
       HasCode (tokens_of placed) next.token which → SyntaxFault text next.line which
   -- the text ends before the program does
   early : (placed : List Placed) (rest : List ℕ) →
-      length text ≤ most_text → EndsLine text →
+      length text ≤ MOST_TEXT → EndsLine text →
       IsSoundUpTo text placed rest → IsGap rest →
       ((whole : Whole) → program_tokens whole ≡ tokens_of placed → ⊥) →
       SyntaxFault text (newlines text) code.Expected

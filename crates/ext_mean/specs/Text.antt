@@ -1,5 +1,6 @@
 -- The text of an extension: which program it spells, and on which line each item begins.
 use Rattle.std.specs.Prelude.{◌≡◌, ◌≤◌, ℕ, List, [], ◌∷◌, ◌++◌, length}
+use Rattle.sp_base.specs.declared.limits.TheConstants.{MOST_TEXT}
 use Rattle.ext_mean.specs.declared.tree.Program.{Program}
 use Rattle.ext_mean.specs.declared.token.Placed.{Placed}
 use Rattle.ext_mean.specs.Tokens.{Tokens, tokens_of, IsGap, newline}
@@ -7,10 +8,6 @@ use Rattle.ext_mean.specs.Grammar.{Whole}
 use Rattle.ext_mean.specs.Derived.{program_tree}
 use Rattle.ext_mean.specs.Wording.{Slot, Standing, begins, program_slots, program_tokens}
 use Rattle.ext_mean.specs.Bounds.{AreBounded}
-
--- a text has at most 16,384 bytes
-abbrev pub most_text : ℕ
-most_text = 16384
 
 -- the last byte is a newline
 abbrev pub EndsLine : List ℕ → Type 0
@@ -32,7 +29,7 @@ pub record Reading (text : List ℕ) : Type 0 where
   pub placed : List Placed
   pub last : List ℕ
   pub whole : Whole
-  pub size : length text ≤ most_text
+  pub size : length text ≤ MOST_TEXT
   pub ends : EndsLine text
   pub tokens : Tokens text 1 placed last
   pub gap : IsGap last

@@ -6,7 +6,8 @@ use Rattle.std.proofs.lemmas.Bool.Decides.{nat_tests}
 use Rattle.ext_mean.specs.declared.codes.SyntaxCode.TheVariants as code
 use Rattle.ext_mean.specs.declared.token.Placed.{Placed}
 use Rattle.ext_mean.specs.SyntaxFaults.{large, empty, unended}
-use Rattle.ext_mean.specs.Text.{EndsLine, most_text}
+use Rattle.ext_mean.specs.Text.{EndsLine}
+use Rattle.sp_base.specs.declared.limits.TheConstants.{MOST_TEXT}
 use Rattle.ext_mean.specs.Tokens.{newline, newlines}
 use Rattle.ext_tokens.specs.declared.scan.End.{End}
 use Rattle.ext_tokens.specs.Scanning.{HasTokens}
@@ -16,14 +17,14 @@ use Rattle.ext_parse.specs.Laws.{SpellsSome, HasFault, EveryTextIsJudged}
 use Rattle.ext_parse.specs.Readers.{ending_of}
 use Rattle.ext_parse.proofs.ParseProved as parse
 
-by-answer : (text : List ℕ) (placed : List Placed) (last : End) (answer : Answer) → length text ≤ most_text → EndsLine text → HasTokens text placed last
+by-answer : (text : List ℕ) (placed : List Placed) (last : End) (answer : Answer) → length text ≤ MOST_TEXT → EndsLine text → HasTokens text placed last
     → whole_answer (ending_of last) placed ≡ answer → SpellsSome text ⊎ HasFault text
 by-answer text placed last (accepted program lines) size ends is same =
     inl (record { program = program; lines = lines; spelled = parse.found text placed last program lines size ends is same })
 by-answer text placed last (faulty line which) size ends is same =
     inr (record { line = line; which = which; fault = parse.fault text placed last line which size ends is same })
 
-lines-judged : (text : List ℕ) → length text ≤ most_text → EndsLine text → SpellsSome text ⊎ HasFault text
+lines-judged : (text : List ℕ) → length text ≤ MOST_TEXT → EndsLine text → SpellsSome text ⊎ HasFault text
 lines-judged text size ends =
     let scan = every-scan text ends in
     by-answer text scan.0 scan.1 (whole_answer (ending_of scan.1) scan.0) size ends scan.2 refl
@@ -55,7 +56,7 @@ ends-cases byte (next ∷ rest) =
       | inr unended_there ↦ inr (more-last byte next rest unended_there)
     ]
 
-short-judged : (text : List ℕ) → length text ≤ most_text → SpellsSome text ⊎ HasFault text
+short-judged : (text : List ℕ) → length text ≤ MOST_TEXT → SpellsSome text ⊎ HasFault text
 short-judged [] size = inr (record { line = 1; which = code.Expected; fault = empty refl })
 short-judged (byte ∷ rest) size =
     elim (ends-cases byte rest) [
@@ -65,7 +66,7 @@ short-judged (byte ∷ rest) size =
 
 pub every-judged : EveryTextIsJudged
 every-judged text =
-    elim (cases_Bool (nat_le (length text) most_text)) [
+    elim (cases_Bool (nat_le (length text) MOST_TEXT)) [
       | inl short ↦ short-judged text (grind (arith, nat_tests))
       | inr long ↦ inr (record { line = 1; which = code.Long; fault = large (grind (arith, nat_tests)) })
     ]

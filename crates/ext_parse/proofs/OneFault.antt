@@ -8,7 +8,8 @@ use Rattle.ext_mean.specs.declared.token.Token.{Token}
 use Rattle.ext_mean.specs.declared.tree.Program.{Program}
 use Rattle.ext_mean.specs.Grammar.{Whole}
 use Rattle.ext_mean.specs.SyntaxFaults.{SyntaxFault, large, empty, unended, no_token, bad_comment, bad_token, early, HasCode, long, deep, many, expected, IsSoundUpTo, line_behind}
-use Rattle.ext_mean.specs.Text.{EndsLine, SpellsAt, most_text}
+use Rattle.ext_mean.specs.Text.{EndsLine, SpellsAt}
+use Rattle.sp_base.specs.declared.limits.TheConstants.{MOST_TEXT}
 use Rattle.ext_mean.specs.Tokens.{Tokens, IsGap, newline, newlines, tokens_of}
 use Rattle.ext_mean.specs.Wording.{program_slots, program_tokens}
 use Rattle.ext_tokens.specs.Laws.{HasNoFirst, IsFront}
@@ -59,10 +60,10 @@ record Inside (text : List ℕ) (line : ℕ) (which : SyntaxCode) : Type 0 where
 
 -- what kind of fault it is
 data Kind (text : List ℕ) : ℕ → SyntaxCode → Type 0 where
-  too_large : most_text < length text → Kind text 1 code.Long
+  too_large : MOST_TEXT < length text → Kind text 1 code.Long
   nothing : text ≡ [] → Kind text 1 code.Expected
-  unclosed : length text ≤ most_text → 0 < length text → (EndsLine text → ⊥) → Kind text (newlines text + 1) code.Expected
-  inside : {line : ℕ} {which : SyntaxCode} → length text ≤ most_text → EndsLine text → Inside text line which → Kind text line which
+  unclosed : length text ≤ MOST_TEXT → 0 < length text → (EndsLine text → ⊥) → Kind text (newlines text + 1) code.Expected
+  inside : {line : ℕ} {which : SyntaxCode} → length text ≤ MOST_TEXT → EndsLine text → Inside text line which → Kind text line which
 
 begin-of : (text : List ℕ) (placed : List Placed) (rest : List ℕ) → IsSoundUpTo text placed rest → Begin placed
 begin-of text placed rest sound = record {

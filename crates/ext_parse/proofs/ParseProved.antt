@@ -7,7 +7,8 @@ use Rattle.ext_mean.specs.declared.tree.Program.{Program}
 use Rattle.ext_mean.specs.Grammar.{Whole}
 use Rattle.ext_mean.specs.SyntaxFaults.{SyntaxFault, no_token, bad_comment, bad_token, early, HasCode, IsSoundUpTo, BreaksComment}
 use Rattle.ext_mean.specs.SyntaxFaults as has
-use Rattle.ext_mean.specs.Text.{EndsLine, SpellsAt, most_text}
+use Rattle.ext_mean.specs.Text.{EndsLine, SpellsAt}
+use Rattle.sp_base.specs.declared.limits.TheConstants.{MOST_TEXT}
 use Rattle.ext_mean.specs.Tokens.{IsGap, Tokens, tokens_of}
 use Rattle.ext_mean.specs.Wording.{program_tokens}
 use Rattle.ext_tokens.specs.declared.scan.End.{End}
@@ -25,7 +26,7 @@ complete-gap : (text rest : List ℕ) (placed : List Placed) (last : End) → (e
 complete-gap text rest placed (end.Text line) complete is = is.0
 complete-gap text rest placed (end.Fault line which) complete is = absurd cc
 
-pub found : (text : List ℕ) (placed : List Placed) (last : End) (program : Program) (lines : List ℕ) → length text ≤ most_text → EndsLine text → HasTokens text placed last → whole_answer (ending_of last) placed ≡ accepted program lines → SpellsAt text program lines
+pub found : (text : List ℕ) (placed : List Placed) (last : End) (program : Program) (lines : List ℕ) → length text ≤ MOST_TEXT → EndsLine text → HasTokens text placed last → whole_answer (ending_of last) placed ≡ accepted program lines → SpellsAt text program lines
 found text placed last program lines size ends is same =
     let made = accepted-are-programs placed (ending_of last) program lines is.sound same in
     record {
@@ -57,7 +58,7 @@ sound-begin text placed rest tokens begun = record {
 }
 
 -- the first fault is behind all tokens
-fault-behind : (text rest : List ℕ) (placed : List Placed) (last : End) → length text ≤ most_text → EndsLine text → Tokens text 1 placed rest → IsEnd text placed rest last → Begin placed
+fault-behind : (text rest : List ℕ) (placed : List Placed) (last : End) → length text ≤ MOST_TEXT → EndsLine text → Tokens text 1 placed rest → IsEnd text placed rest last → Begin placed
     → ((ending_of last).complete ≡ true → (whole : Whole) → program_tokens whole ≡ tokens_of placed → ⊥) → SyntaxFault text (ending_of last).line (ending_of last).code
 fault-behind text rest placed (end.Text line) size ends tokens is begun none =
     subst (λ z. SyntaxFault text z code.Expected) (sym is.1)
@@ -80,7 +81,7 @@ append-one [] next after = refl
 append-one (first ∷ before) next after = ap (λ z. first ∷ z) (append-one before next after)
 
 -- the first fault is one of the tokens
-fault-among : (text rest : List ℕ) (placed before after : List Placed) (next : Placed) (which : SyntaxCode) → length text ≤ most_text → EndsLine text → Tokens text 1 placed rest
+fault-among : (text rest : List ℕ) (placed before after : List Placed) (next : Placed) (which : SyntaxCode) → length text ≤ MOST_TEXT → EndsLine text → Tokens text 1 placed rest
     → placed ≡ before ++ next ∷ after → Begin before → HasCode (tokens_of before) next.token which → SyntaxFault text next.line which
 fault-among text rest placed before after next which size ends tokens same begun has_code =
     let all : Tokens text 1 (before ++ next ∷ after) rest = subst (λ z. Tokens text 1 z rest) same tokens in
@@ -89,14 +90,14 @@ fault-among text rest placed before after next which size ends tokens same begun
     let upto = tokens-part text rest 1 (before ++ next ∷ []) after (subst (λ z. Tokens text 1 z rest) joined all) in
     bad_token before next apart.0 upto.0 size ends (sound-begin text before apart.0 apart.1 begun) upto.1 has_code
 
-first-fault : (text : List ℕ) (placed : List Placed) (last : End) (line : ℕ) (which : SyntaxCode) → length text ≤ most_text → EndsLine text → HasTokens text placed last
+first-fault : (text : List ℕ) (placed : List Placed) (last : End) (line : ℕ) (which : SyntaxCode) → length text ≤ MOST_TEXT → EndsLine text → HasTokens text placed last
     → First placed (ending_of last) line which → SyntaxFault text line which
 first-fault text placed last line which size ends is (at_token before next rest same begun has_code) =
     fault-among text is.rest placed before rest next _ size ends is.tokens same begun has_code
 first-fault text placed last line which size ends is (at_end begun none) =
     fault-behind text is.rest placed last size ends is.tokens is.end begun none
 
-pub fault : (text : List ℕ) (placed : List Placed) (last : End) (line : ℕ) (which : SyntaxCode) → length text ≤ most_text → EndsLine text → HasTokens text placed last
+pub fault : (text : List ℕ) (placed : List Placed) (last : End) (line : ℕ) (which : SyntaxCode) → length text ≤ MOST_TEXT → EndsLine text → HasTokens text placed last
     → whole_answer (ending_of last) placed ≡ faulty line which → SyntaxFault text line which
 fault text placed last line which size ends is same =
     first-fault text placed last line which size ends is (faults-are-first placed (ending_of last) line which is.sound same)

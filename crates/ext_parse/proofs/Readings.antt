@@ -2,7 +2,8 @@
 use Rattle.std.proofs.Common.{◌≡◌, ◌≤◌, sym, ap, ◌∙◌, List, [], ℕ, length, refl}
 use Rattle.std.specs.Prelude.{IfOk, IfErr, MatchResult, Result, Ok, Err}
 use Rattle.ext_mean.specs.declared.tree.Program.{Program}
-use Rattle.ext_mean.specs.Text.{EndsLine, SpellsAt, most_text}
+use Rattle.ext_mean.specs.Text.{EndsLine, SpellsAt}
+use Rattle.sp_base.specs.declared.limits.TheConstants.{MOST_TEXT}
 use Rattle.ext_tokens.specs.declared.scan.Scanned.{Scanned}
 use Rattle.ext_tokens.specs.Scanning.{IsScanned}
 use Rattle.ext_grammar.specs.Reading.{Answer, accepted, faulty, whole_answer}
@@ -28,12 +29,12 @@ lines_or (faulty line which) = []
 abbrev pub answer_to : Scanned → Answer
 answer_to scanned = whole_answer (ending_of scanned.end) scanned.tokens.items
 
-pub if-found : (text : List ℕ) (scanned : Scanned) (answer : Answer) (result : Result Parsed ParseFault) → answer ≡ answer_to scanned → length text ≤ most_text → EndsLine text → IsScanned text scanned
+pub if-found : (text : List ℕ) (scanned : Scanned) (answer : Answer) (result : Result Parsed ParseFault) → answer ≡ answer_to scanned → length text ≤ MOST_TEXT → EndsLine text → IsScanned text scanned
     → IsAnswered result answer → IfOk result (λ parsed. SpellsAt text parsed.program parsed.lines.items)
 if-found text scanned answer (Ok parsed) this size ends is same = parse.found text scanned.tokens.items scanned.end parsed.program parsed.lines.items size ends is (sym this ∙ same)
 if-found text scanned answer (Err e) this size ends is same = tt
 
-pub if-fault : (text : List ℕ) (scanned : Scanned) (answer : Answer) (result : Result Parsed ParseFault) → answer ≡ answer_to scanned → length text ≤ most_text → EndsLine text → IsScanned text scanned
+pub if-fault : (text : List ℕ) (scanned : Scanned) (answer : Answer) (result : Result Parsed ParseFault) → answer ≡ answer_to scanned → length text ≤ MOST_TEXT → EndsLine text → IsScanned text scanned
     → IsAnswered result answer → IfErr result (λ e. Explains text e)
 if-fault text scanned answer (Ok parsed) this size ends is same = tt
 if-fault text scanned answer (Err (fault.Syntax line which)) this size ends is same = parse.fault text scanned.tokens.items scanned.end line which size ends is (sym this ∙ same)

@@ -2,7 +2,7 @@ ghost use Rattle.std.specs.Prelude.{◌≡◌, ◌≤◌, ◌<◌, List, ℕ, If
 ghost use Rattle.ext_mean.specs.declared.codes.SyntaxCode.{SyntaxCode};
 ghost use Rattle.ext_mean.specs.declared.tree.Program.{Program};
 ghost use Rattle.ext_mean.specs.SyntaxFaults.{SyntaxFault};
-ghost use Rattle.ext_mean.specs.Text.{EndsLine, SpellsAt, most_text};
+ghost use Rattle.ext_mean.specs.Text.{EndsLine, SpellsAt};
 ghost use Rattle.ext_mean.specs.Tokens as spelling;
 ghost use Rattle.ext_parse.specs.Faults.{Explains, Tells};
 
@@ -52,7 +52,7 @@ fn parse_text(alloc: Global, text: &[u8]) -> Result<Parsed, ParseFault>
 
 /// The same for a text of whole lines.
 fn parse_lines(alloc: Global, text: &[u8]) -> Result<Parsed, ParseFault>
-    requires size { length text.now ≤ most_text }
+    requires size { length text.now ≤ MOST_TEXT }
     requires lines { EndsLine text.now }
     ensures found { IfOk result (λ parsed. SpellsAt text.now parsed.program parsed.lines.items) }
     ensures only { (program : Program) (lines : List ℕ) → SpellsAt text.now program lines →
@@ -72,7 +72,7 @@ fn fault(line: u32, code: SyntaxCode) -> ParseFault
 
 /// The newlines of a text.
 fn newlines(text: &[u8]) -> u32
-    requires { length text.now ≤ most_text }
+    requires { length text.now ≤ MOST_TEXT }
     ensures count { result ≡ spelling.newlines text.now }
     ensures few { result ≤ length text.now }
 {

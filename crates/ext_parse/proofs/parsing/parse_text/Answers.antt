@@ -5,6 +5,7 @@ use Rattle.ext_mean.specs.SyntaxFaults.{large, empty, unended}
 use Rattle.ext_parse.specs.Faults.{Explains}
 use Rattle.ext_mean.specs.declared.codes.SyntaxCode.TheVariants as code
 use Rattle.ext_parse.specs.declared.fault.ParseFault.TheVariants as fault
+use Rattle.sp_base.specs.declared.limits.TheConstants.{MOST_TEXT}
 use Rattle.ext_parse.proofs.Lists.{no-items}
 use Rattle.ext_parse.proofs.parsing.parse_text.Goals as goal
 
@@ -18,7 +19,7 @@ returns-then-is_empty-clause-fault c =
 
 pub returns-then-not-ends_line-clause-fault : goal.returns-then-not-ends_line-clause-fault
 returns-then-not-ends_line-clause-fault c =
-    let size : length c.args.text.now ≤ 16384 = grind (arith, nat_tests, c.if-text-gt-MOST_TEXT.false) in
+    let size : length c.args.text.now ≤ MOST_TEXT = grind (arith, nat_tests, c.if-text-gt-MOST_TEXT.false) in
     let some : 0 < length c.args.text.now = grind (arith, nat_tests, c.is_empty.ensures, c.if-is_empty.false) in
     subst (Explains c.args.text.now) (sym c.fault-then-not-ends_line.ensures)
     (subst (λ n. Explains c.args.text.now (fault.Syntax (n + 1) code.Expected)) (sym c.newlines.ensures.count)
