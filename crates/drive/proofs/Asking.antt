@@ -288,6 +288,8 @@ does-from terms journal old asked new one message (plan.Run begun_calls) still o
   awaits = does.awaits;
   some = does.some;
   each = does.each;
+  places = does.places;
+  waiting = does.waiting;
   still = λ state was. does.still state (still state was);
 }
 does-from terms journal old asked new one message (plan.Stop (Some given)) still own does =

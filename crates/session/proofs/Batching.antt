@@ -29,6 +29,7 @@ use Rattle.session.specs.Filling.{Fills}
 use Rattle.session.specs.Standing.{Awaits, EndHolds, Finishes, Fits, HasBegun, IsOpen, ItemsSoFar, Planned, handed_back, room_in, tenant_of, terms_over}
 use Rattle.session.specs.Starting.{AllStart}
 use Rattle.session.specs.States.{Terms, seen_in_items}
+use Rattle.session.specs.Waiting.{WaitsAt}
 use Rattle.session.proofs.Filling.{Filling, batch-told, filled-all, filling-at-first, fills-long, fills-show, refusals-show}
 use Rattle.session.proofs.Items.{all-map}
 use Rattle.session.proofs.LongerSteps.{can-begin-longer, fits-longer, items-longer}
@@ -115,6 +116,9 @@ batch-runs old new book journal tenant calls items begun_calls fits admitted sta
         some = some;
         each = all-map (HasBegun old book.grants journal calls) (HasBegun new book.grants (journal ++ []) calls) begun_calls.items
             (λ one has. names-ext-nil journal calls one old new book.grants own parked seen has) all.have_begun;
+        places = all.places;
+        waiting = all-map (λ (one : Begun). WaitsAt (phase.Running items) one.place) (λ (one : Begun). WaitsAt new.phase one.place) begun_calls.items
+            (λ one waits. subst (λ (p : Phase). WaitsAt p one.place) (sym (ap (λ (s : Session). s.phase) new_is)) waits) all.untold;
         still = λ state was. stands-still old new state was own parked seen;
       };
     }

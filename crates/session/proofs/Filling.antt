@@ -335,14 +335,14 @@ told-so terms journal tenant since asked (ended.Pushed load spent last) before a
 told-so terms journal tenant since asked ended.Memory before after earlier given free holds told =
     told-memory terms journal tenant since asked ended.Memory before after earlier given free told.0 told.1
 
-get-other : {A : Type 0} (xs : List A) (p k : ℕ) (v x : A) → k ≢ p → slice_get xs k ≡ Some x → slice_get (slice_set xs p v) k ≡ Some x
+pub get-other : {A : Type 0} (xs : List A) (p k : ℕ) (v x : A) → k ≢ p → slice_get xs k ≡ Some x → slice_get (slice_set xs p v) k ≡ Some x
 get-other [] p k v x differ found = absurd cc
 get-other (y ∷ xs) zero zero v x differ found = absurd (differ refl)
 get-other (y ∷ xs) zero (suc k) v x differ found = found
 get-other (y ∷ xs) (suc p) zero v x differ found = found
 get-other (y ∷ xs) (suc p) (suc k) v x differ found = get-other xs p k v x (λ same. differ (ap suc same)) found
 
-get-same : {A : Type 0} (xs : List A) (p : ℕ) (v x : A) → slice_get xs p ≡ Some x → slice_get (slice_set xs p v) p ≡ Some v
+pub get-same : {A : Type 0} (xs : List A) (p : ℕ) (v x : A) → slice_get xs p ≡ Some x → slice_get (slice_set xs p v) p ≡ Some v
 get-same [] p v x found = absurd cc
 get-same (y ∷ xs) zero v x found = refl
 get-same (y ∷ xs) (suc p) v x found = get-same xs p v x found

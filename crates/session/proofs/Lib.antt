@@ -9,6 +9,7 @@ pub mod Leaving
 pub mod Handing
 pub mod Filling
 pub mod Asking
+pub mod Waiting
 pub mod Starting
 pub mod Batching
 pub mod Fetching

@@ -34,6 +34,7 @@ use Rattle.session.proofs.Keeping.{free-of, kept-there}
 use Rattle.session.proofs.Longer.{found-longer}
 use Rattle.session.proofs.Telling.{now-shown}
 use Rattle.session.proofs.Planning.{seen-by}
+use Rattle.session.proofs.Waiting.{all-push, begun-rise, begun-untold}
 
 -- ---- One call
 
@@ -139,10 +140,6 @@ starts-begun session book journal tenant before asked ext task unparked good fou
 
 -- ---- All of them
 
-all-push : {A : Type 0} (P : A → Type 0) (xs : List A) (y : A) → AllByRecursion P xs → P y → AllByRecursion P (xs ++ y ∷ [])
-all-push P [] y all holds = (holds, tt)
-all-push P (x ∷ xs) y all holds = (all.0, all-push P xs y all.1 holds)
-
 all-over : {A : Type 0} (P Q : A → Type 0) (xs : List A) → ((x : A) → P x → Q x) → AllByRecursion P xs → AllByRecursion Q xs
 all-over P Q [] maps all = tt
 all-over P Q (x ∷ xs) maps all = (maps x all.0, all-over P Q xs maps all.1)
@@ -156,6 +153,8 @@ no-calls session book journal tenant = record {
   each = λ state stands. record { many = refl; each = λ place given found. absurd cc };
   refusals = tt;
   have_begun = tt;
+  places = tt;
+  untold = tt;
   free = λ place given found. absurd cc;
 }
 
@@ -281,5 +280,7 @@ starts-more session book journal tenant calls items begun_calls asked given admi
   each = λ state stands. items-more session book journal tenant calls items asked given state stands starts (all.each state stands);
   refusals = all-push IsRefusal items (item_so_far given) all.refusals (so-far-refusal session book journal tenant calls asked given starts);
   have_begun = begun-more session book journal tenant calls (length items) asked given begun_calls admitted many starts all.have_begun;
+  places = begun-rise items begun_calls given all.places all.untold;
+  untold = begun-untold items begun_calls given all.untold;
   free = free-more session book journal tenant calls items asked given many starts all.free;
 }

@@ -5,6 +5,7 @@ pub mod Sending
 pub mod Batches
 pub mod Steps
 pub mod Seeing
+pub mod Waiting
 pub mod Standing
 pub mod Starting
 pub mod Filling

@@ -50,6 +50,7 @@ use Rattle.session.specs.Keeping.{IsOfEach, call_in}
 use Rattle.session.specs.Sending.{SentFits}
 use Rattle.session.specs.States.{IsMap, Kept, State, Terms, kept_of}
 use Rattle.session.specs.Steps.{Step, is_in_turn}
+use Rattle.session.specs.Waiting.{BegunWait, PlacesRise}
 use Rattle.wire.specs.Answers.{EndsParked, IsIn}
 
 -- the terms of a session over a book
@@ -330,6 +331,8 @@ pub record Runs (terms : Terms) (journal : List Entry) (Stood : State → Type 0
   pub awaits : Awaits new terms journal calls
   pub some : begun_calls ≢ []
   pub each : AllByRecursion (HasBegun new terms.grants journal calls) begun_calls
+  pub places : PlacesRise 0 begun_calls
+  pub waiting : BegunWait new begun_calls
   pub still : StandsAsBefore Stood new
 
 -- the session ends without an answer, behind a Bye in turn

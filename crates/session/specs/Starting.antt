@@ -18,6 +18,7 @@ use Rattle.session.specs.declared.session.Session.{Session}
 use Rattle.session.specs.Batches.{AreFree, AreItems, CanBegin, IsFreeBut, IsItemOf, IsRefusal, IsUnparked, call_of}
 use Rattle.session.specs.Standing.{HasBegun, Stands, parked_in, terms_over}
 use Rattle.session.specs.States.{State}
+use Rattle.session.specs.Waiting.{IsUntold, PlacesRise}
 
 abbrev pub caller_of : Asked → ℕ
 caller_of asked = asked.caller
@@ -51,9 +52,11 @@ abbrev pub begun_with : List Begun → ℕ → Start → List Begun
 begun_with begun_calls place (start.Refused given) = begun_calls
 begun_with begun_calls place (start.Began task) = begun_calls ++ record { place = place; task = task } ∷ []
 
--- each call has its item so far, a refusal, and those that began are tasks
+-- each call has its item so far, a refusal, and those that began are tasks in order, which wait for their ends
 pub record AllStart (session : Session) (book : BookValue) (journal : List Entry) (tenant : TenantId) (calls : List Asked) (items : List Item) (begun_calls : List Begun) : Type 0 where
   pub each : (state : State) → Stands session state → AreItems (terms_over session book) tenant journal state calls items
   pub refusals : AllByRecursion IsRefusal items
   pub have_begun : AllByRecursion (HasBegun session book.grants journal calls) begun_calls
+  pub places : PlacesRise 0 begun_calls
+  pub untold : AllByRecursion (λ one. IsUntold items one.place) begun_calls
   pub free : AreFree (parked_in session) calls items

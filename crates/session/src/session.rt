@@ -7,6 +7,7 @@ ghost use Rattle.book.specs.Standing.{KeepsFixed, StandsFor};
 ghost use Rattle.wire.specs.Requests.{FitsRequest};
 ghost use Rattle.session.specs.States.{State, Terms, opening};
 ghost use Rattle.session.specs.Steps.{faulted};
+ghost use Rattle.session.specs.Waiting.{AreAwaited, OneOfEach, TellsEnds};
 ghost use Rattle.session.specs.Standing.{AskFits, Asks, Awaits, EndHolds, Finishes, Fits, IsAsked, IsOpen, IsRunning, PlannedFrom, Refused, Stands, StandsAsking, ended_now, handed_back, request_of, room_in};
 
 use crate::conf::SessionConf;
@@ -16,7 +17,7 @@ use crate::parked_calls::ParkedCalls;
 use crate::plan::{Ask, Plan};
 use book::{Book, CallEnd};
 use parked::Finish;
-use sp_base::{MOST_PARKED, Rights, TenantId};
+use sp_base::{MOST_PARKED, Policy, Rights, TenantId};
 use std::alloc::Global;
 use std::mem::replace;
 use wire::{Answer, Item, Request};
@@ -75,6 +76,13 @@ impl Session {
         ensures { (state : State) → Stands self.now state → result ≡ state.seen }
     {
         self.seen
+    }
+
+    /// When the session's calls are pushed back to its client.
+    pub fn policy(&self) -> Policy
+        ensures { result ≡ self.now.conf.policy }
+    {
+        self.conf.policy
     }
 
     /// How many more calls the session can park.
@@ -145,6 +153,8 @@ impl Session {
             → length journal < 2 ^ 64 → Fits self.old journal terms.grants → Awaits self.old terms journal calls
             → AllByRecursion (EndHolds self.old terms journal calls) ends.items
             → Finishes terms journal calls ends.items self.old self.new result }
+        // Each end of a call that waits for it is told at its place.
+        ensures told { OneOfEach ends.items → AreAwaited self.old ends.items → TellsEnds ends.items result }
         ensures conf { self.new.conf ≡ self.old.conf }
     {
         match replace(&mut self.phase, Phase::Open) {
