@@ -21,9 +21,11 @@ pub struct Case<'a> {
     pub held: &'static [(&'static [u8], &'static [u8])],
     /// The keys that it reads, each with the units spent at its want.
     pub wants: &'a [(&'a [u8], u32)],
-    /// How it ends, and the value that it puts, if it puts one.
+    /// The units spent at its end, and how it ends.
+    pub units: u32,
     pub ends: End,
-    pub puts: Option<&'static [u8]>,
+    /// The key and the value of its one write, if it has one.
+    pub puts: Option<(&'static [u8], &'static [u8])>,
 }
 
 /// How a run ends.

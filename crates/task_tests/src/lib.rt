@@ -3,7 +3,11 @@
 #![tactic(auto)]
 
 #[cfg(test)]
+mod bodies;
+#[cfg(test)]
 mod cases;
+#[cfg(test)]
+mod comparing;
 #[cfg(test)]
 mod read_sets;
 #[cfg(test)]

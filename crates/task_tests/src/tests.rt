@@ -1,11 +1,8 @@
 use crate::cases::{Case, End};
-use crate::turns::run;
-use rw_set::Finished;
-use sp_base::{Change, Outcome, Write};
+use crate::comparing::{plays, plays_in_all_sizes};
 use std::alloc::Global;
-use std::process::Abort;
 use std::test::Fail;
-use task::{Ext, ExtFault};
+use task::{Ext, ExtFault, PlainTask, Task};
 
 const LOOK_UP: &str =
     "fn main() -> int { get(5, args()) { some s => { resp(s); } none => { } } return 0; }";
@@ -28,207 +25,208 @@ const OWN_WRITE: &str =
 const READ_ALL: &str =
     "fn main() -> int { multiget(5, args(), 2) { some s => { } none => { } } return 0; }";
 
+const ENDLESS: &str = "fn main() -> int { while true { } return 0; }";
+
 const MANY_WRITES: &str =
     "fn main() -> int { let i: int = 0; while i < 65 { let k: temp = temp(1); set(k, 0, i); let b: buf = alloc(6, view(k), 0); put(b); i = i + 1; } return 0; }";
 
-/// Whether a finished run has the reads, the end and the write of its case.
-fn is_as_worked_out(rt: &impl Abort, case: &Case, done: &Finished) {
-    let reads = done.reads.items();
-    assert_eq!(rt; reads.len(), case.wants.len());
-    for (k, read) in reads.iter().enumerate() {
-        if let Some((name, _)) = case.wants.get(k) {
-            assert_eq!(rt; read.key.bytes(), *name);
-        }
-    }
-    let ends = match &done.outcome {
-        Outcome::Done(reply) => match case.ends {
-            End::Done(code, bytes) => reply.code == code && reply.bytes.bytes() == bytes,
-            _ => false,
-        },
-        Outcome::Trapped(trap) => match case.ends {
-            End::Trapped(number) => *trap as u8 == number,
-            _ => false,
-        },
-        Outcome::Killed => matches!(case.ends, End::Killed),
-    };
-    assert!(rt; ends);
-    match case.puts {
-        None => assert_eq!(rt; done.writes.len(), 0),
-        Some(bytes) => match done.writes.as_slice() {
-            [
-                Write {
-                    change: Change::Put(value),
-                    ..
-                },
-            ] => assert_eq!(rt; value.bytes(), bytes),
-            _ => assert!(rt; false),
-        },
+/// A run that reads nothing and writes nothing.
+fn quiet(text: &'static str, budget: u32, table: u32) -> Case<'static> {
+    Case {
+        text,
+        args: b"",
+        budget,
+        table,
+        held: &[],
+        wants: &[],
+        units: budget,
+        ends: End::Killed,
+        puts: None,
     }
 }
 
-/// The case in turns of each size.
-fn plays(rt: &impl Abort, alloc: Global, case: &Case) -> Result<(), Fail> {
-    for quantum in [1, 2, 3, 7, 16, 17, case.budget] {
-        if quantum == 0 {
-            return Err(Fail::new("no quantum"));
-        }
-        let done = run(rt, alloc, case, quantum)?;
-        is_as_worked_out(rt, case, &done);
-    }
-    Ok(())
-}
-
-/// A statement and a read before the answer and the end: 17, 18 and 19 units.
-#[test]
-fn a_look_up_in_turns_of_every_size(rt: HostRuntime) -> Result<(), Fail> {
-    let found = Case {
-        text: LOOK_UP,
+/// A statement and a read at 17 units, before the answer and the end.
+fn look_up() -> Case<'static> {
+    Case {
         args: b"k",
-        budget: 19,
-        table: 5,
         held: &[(b"k", b"v1")],
         wants: &[(b"k", 17)],
         ends: End::Done(0, b"v1"),
-        puts: None,
-    };
-    plays(&rt, rt.alloc(), &found)?;
+        ..quiet(LOOK_UP, 19, 5)
+    }
+}
+
+#[test]
+fn a_look_up_in_turns_of_every_size(rt: HostRuntime) -> Result<(), Fail> {
+    plays_in_all_sizes(&rt, rt.alloc(), &look_up())
+}
+
+#[test]
+fn a_look_up_that_is_a_unit_short(rt: HostRuntime) -> Result<(), Fail> {
     let poor = Case {
         budget: 18,
+        units: 18,
         ends: End::Killed,
-        ..found
+        ..look_up()
     };
-    plays(&rt, rt.alloc(), &poor)?;
+    plays_in_all_sizes(&rt, rt.alloc(), &poor)
+}
+
+/// A table that may not be read is trapped at the statement's unit, before the read's charge.
+#[test]
+fn a_look_up_that_is_denied(rt: HostRuntime) -> Result<(), Fail> {
     let denied = Case {
         table: 9,
         wants: &[],
+        units: 1,
         ends: End::Trapped(4),
-        ..poor
+        ..look_up()
     };
-    plays(&rt, rt.alloc(), &denied)?;
+    plays_in_all_sizes(&rt, rt.alloc(), &denied)
+}
+
+/// And so is a key that is too long.
+#[test]
+fn a_look_up_of_a_key_of_65_bytes(rt: HostRuntime) -> Result<(), Fail> {
     let long = Case {
         args: &[7; 65],
-        table: 5,
+        wants: &[],
+        units: 1,
         ends: End::Trapped(3),
-        ..denied
+        ..look_up()
     };
-    plays(&rt, rt.alloc(), &long)
+    plays_in_all_sizes(&rt, rt.alloc(), &long)
 }
 
 /// Two statements and a read at 18 units, and four more statements.
 #[test]
 fn a_counter_in_turns_of_every_size(rt: HostRuntime) -> Result<(), Fail> {
     let counter = Case {
-        text: COUNTER,
         args: b"c",
-        budget: 22,
-        table: 6,
-        held: &[],
         wants: &[(b"c", 18)],
         ends: End::Done(1, b""),
-        puts: Some(&[1, 0, 0, 0, 0, 0, 0, 0]),
+        puts: Some((b"c", &[1, 0, 0, 0, 0, 0, 0, 0])),
+        ..quiet(COUNTER, 22, 6)
     };
-    plays(&rt, rt.alloc(), &counter)
+    plays_in_all_sizes(&rt, rt.alloc(), &counter)
 }
 
 /// The read at 17 units, the statement behind it at 18, and its reads at 34 and, behind an answer, 51.
 #[test]
 fn two_hops_in_turns_of_every_size(rt: HostRuntime) -> Result<(), Fail> {
     let hops = Case {
-        text: TWO_HOPS,
         args: b"a",
-        budget: 53,
-        table: 5,
         held: &[(b"a", b"bc"), (b"b", b"ad"), (b"c", b"a")],
         wants: &[(b"a", 17), (b"b", 34), (b"c", 51)],
         ends: End::Done(0, b"ada"),
-        puts: None,
+        ..quiet(TWO_HOPS, 53, 5)
     };
-    plays(&rt, rt.alloc(), &hops)
+    plays_in_all_sizes(&rt, rt.alloc(), &hops)
 }
 
 /// Where the records differ the loop never ends: both reads are kept, and the budget is spent.
 #[test]
 fn a_torn_pair_is_killed_with_both_reads(rt: HostRuntime) -> Result<(), Fail> {
     let torn = Case {
-        text: TORN_PAIR,
-        args: b"",
-        budget: 60,
-        table: 6,
         held: &[(b"b", &[1, 0, 0, 0, 0, 0, 0, 0])],
         wants: &[(b"a", 19), (b"b", 36)],
-        ends: End::Killed,
-        puts: None,
+        ..quiet(TORN_PAIR, 60, 6)
     };
-    plays(&rt, rt.alloc(), &torn)
+    plays_in_all_sizes(&rt, rt.alloc(), &torn)
+}
+
+/// Four statements; the buffer of one byte costs nothing.
+fn blind() -> Case<'static> {
+    Case {
+        args: &[1],
+        ends: End::Done(0, b""),
+        puts: Some((b"k", &[1])),
+        ..quiet(BLIND, 4, 6)
+    }
 }
 
 #[test]
-fn runs_without_reads_in_turns_of_every_size(rt: HostRuntime) -> Result<(), Fail> {
-    let blind = Case {
-        text: BLIND,
-        args: &[1],
-        budget: 4,
-        table: 6,
-        held: &[],
-        wants: &[],
-        ends: End::Done(0, b""),
-        puts: Some(&[1]),
-    };
-    plays(&rt, rt.alloc(), &blind)?;
+fn a_blind_write_in_turns_of_every_size(rt: HostRuntime) -> Result<(), Fail> {
+    plays_in_all_sizes(&rt, rt.alloc(), &blind())
+}
+
+#[test]
+fn a_blind_write_that_is_a_unit_short_writes_nothing(rt: HostRuntime) -> Result<(), Fail> {
     let poor = Case {
         budget: 3,
+        units: 3,
         ends: End::Killed,
         puts: None,
-        ..blind
+        ..blind()
     };
-    plays(&rt, rt.alloc(), &poor)?;
+    plays_in_all_sizes(&rt, rt.alloc(), &poor)
+}
+
+/// Two statements, a read of the pending write at 19 units, which wants no record, and the end.
+#[test]
+fn a_run_sees_its_own_write(rt: HostRuntime) -> Result<(), Fail> {
     let own = Case {
-        text: OWN_WRITE,
-        budget: 100,
+        units: 20,
         ends: End::Done(5, b""),
-        puts: Some(&[0]),
-        ..poor
+        puts: Some((b"k", &[0])),
+        ..quiet(OWN_WRITE, 100, 6)
     };
-    plays(&rt, rt.alloc(), &own)?;
+    plays_in_all_sizes(&rt, rt.alloc(), &own)
+}
+
+/// The 65th place is one too many. Before it are 2 units and 64 turns of the loop with 6 each, and the turn
+/// with the trap has 5 up to its `put`.
+#[test]
+fn the_65th_place_traps(rt: HostRuntime) -> Result<(), Fail> {
     let many = Case {
-        text: MANY_WRITES,
-        budget: 1000,
+        units: 391,
         ends: End::Trapped(3),
-        puts: None,
-        ..own
+        ..quiet(MANY_WRITES, 1_000, 6)
     };
-    plays(&rt, rt.alloc(), &many)
+    plays_in_all_sizes(&rt, rt.alloc(), &many)
+}
+
+/// The keys 0 to 511, of two bytes each.
+fn keys(alloc: Global) -> Result<Vec<u8>, Fail> {
+    let mut keys = Vec::new(alloc);
+    for number in 0..512u16 {
+        for byte in number.to_be_bytes() {
+            keys.push(byte)?;
+        }
+    }
+    Ok(keys)
 }
 
 /// Each key costs 16 units behind the statement's one, so 5,000 units read 312 of the 512 keys.
 #[test]
 fn reads_until_the_budget_is_spent(rt: HostRuntime) -> Result<(), Fail> {
     let alloc = rt.alloc();
-    let mut args = Vec::new(alloc);
-    for number in 0..512u16 {
-        args.push((number / 256) as u8)?;
-        args.push((number % 256) as u8)?;
-    }
-    assert_eq!(rt; args.len(), 1024);
+    let args = keys(alloc)?;
     let mut wants = Vec::new(alloc);
     for k in 0..312u32 {
         let at = 2 * k as usize;
-        wants.push((&args[at..at + 2], 17 + 16 * k))?;
+        if let Some(name) = args.get(at..at + 2) {
+            wants.push((name, 17 + 16 * k))?;
+        }
     }
     let all = Case {
-        text: READ_ALL,
         args: args.as_slice(),
-        budget: 5_000,
-        table: 5,
-        held: &[],
         wants: wants.as_slice(),
-        ends: End::Killed,
-        puts: None,
+        ..quiet(READ_ALL, 5_000, 5)
     };
     for quantum in [17, 5_000] {
-        if quantum > 0 {
-            is_as_worked_out(&rt, &all, &run(&rt, alloc, &all, quantum)?);
-        }
+        plays::<Task>(&rt, alloc, &all, quantum)?;
+        plays::<PlainTask>(&rt, alloc, &all, quantum)?;
+    }
+    Ok(())
+}
+
+/// Each turn of one unit is one of the loop. A body that begins anew at each turn would make a hundred
+/// thousand million of them, for which no test has the time.
+#[test]
+fn endless_calls_are_killed_in_turns_of_one_unit(rt: HostRuntime) -> Result<(), Fail> {
+    for _call in 0..20u32 {
+        plays::<Task>(&rt, rt.alloc(), &quiet(ENDLESS, 100_000, 5), 1)?;
     }
     Ok(())
 }

@@ -1,60 +1,63 @@
-//! Tasks run to their ends, in turns of every size.
+//! Cases run to their ends in turns of one quantum, by either body. Each turn is held to the case.
 
 ghost use Rattle.std.specs.Prelude.{◌≡◌, ◌<◌, IfOk};
 ghost use Rattle.task.specs.declared.phase.Phase.TheVariants.{Ready};
 
-use crate::cases::{Case, End, call, extension, record, rights};
+use crate::bodies::Body;
+use crate::cases::{Case, call, extension, record, rights};
 use rw_set::Finished;
-use sp_base::{Change, Outcome};
 use std::alloc::Global;
 use std::process::Abort;
 use std::test::Fail;
-use task::{Task, Turned};
+use task::Turned;
 
 /// The task of a case, with nothing spent.
-fn begun(alloc: Global, case: &Case) -> Result<Task, Fail>
-    ensures { IfOk result (λ task. task.phase ≡ Ready) }
+fn begun<B: Body>(alloc: Global, case: &Case) -> Result<B, Fail>
+    ensures { IfOk result (λ task. (B.live task).phase ≡ Ready) }
 {
     let ext = extension(alloc, case.text)?;
     let call = call(alloc, case.budget, case.args)?;
-    match Task::begin(alloc, call, ext, rights(alloc, case.table)?) {
-        Ok(task) => Ok(task),
-        Err(_) => Err(Fail::new("memory")),
-    }
+    let rights = rights(alloc, case.table)?;
+    B::start(alloc, call, ext, rights)
 }
 
-/// The run of a case in turns of one quantum. Behind each turn the units spent are those of the rule: a
-/// quantum more, and below the budget, or those at the want.
-pub fn run(rt: &impl Abort, alloc: Global, case: &Case, quantum: u32) -> Result<Finished, Fail>
+/// Whether a turn that goes on is as worked out: a quantum more is spent, and the end is not reached.
+fn goes_on(case: &Case, before: u32, quantum: u32, spent: u32) -> bool {
+    spent < case.units && u64::from(spent) == u64::from(before) + u64::from(quantum)
+}
+
+/// Whether the end is reached within a turn.
+fn ends(case: &Case, before: u32, quantum: u32) -> bool {
+    before < case.units && case.units - before <= quantum
+}
+
+/// The run of a case in turns of one quantum, of which it has at most one for each unit of its budget.
+pub fn run<B: Body>(
+    rt: &impl Abort,
+    alloc: Global,
+    case: &Case,
+    quantum: u32,
+) -> Result<Finished, Fail>
     requires { 0 < quantum }
 {
-    let mut task = begun(alloc, case)?;
+    let mut task: B = begun(alloc, case)?;
     let mut reads = 0;
-    for _turn in 0..200_000u32 {
-        let before = task.spent();
-        match task.turn(quantum) {
-            Turned::Ran => {
-                assert_eq!(rt;
-                    u64::from(task.spent()),
-                    u64::from(before) + u64::from(quantum)
-                );
-                assert!(rt; task.spent() < case.budget);
-            }
+    for _turn in 0..case.budget {
+        let before = task.units();
+        match task.pass(quantum) {
+            Turned::Ran => assert!(rt; goes_on(case, before, quantum, task.units())),
             Turned::Wants { table, key } => {
                 let Some((name, spent)) = case.wants.get(reads) else {
                     return Err(Fail::new("one read too many"));
                 };
-                assert_eq!(rt; task.spent(), *spent);
+                assert_eq!(rt; task.units(), *spent);
                 assert_eq!(rt; key.bytes(), *name);
                 reads += 1;
-                let item = record(alloc, case.held, table, &key)?;
-                if task.give(item).is_err() {
-                    return Err(Fail::new("memory"));
-                }
+                task.feed(record(alloc, case.held, table, &key)?)?;
             }
             Turned::Ended => {
-                assert_eq!(rt; reads, case.wants.len());
-                return Ok(task.finish());
+                assert!(rt; ends(case, before, quantum));
+                return Ok(task.end());
             }
             Turned::Memory => return Err(Fail::new("memory")),
         }
