@@ -4,4 +4,4 @@ use Rattle.task.specs.declared.phase.Phase.TheVariants.{Ready}
 use Rattle.task_tests.proofs.turns.run.Given as goal
 
 abbrev pub invariant-loop-turn : goal.invariant-loop-turn
-invariant-loop-turn g l = l.task.phase ≡ Ready
+invariant-loop-turn g l = (g.B.Body.live l.task).phase ≡ Ready
