@@ -3,6 +3,7 @@ pub mod Held
 pub mod Reading
 pub mod Turns
 pub mod Passing
+pub mod Joining
 pub mod Ways
 pub mod Replying
 pub mod Batching

@@ -32,7 +32,7 @@ use Rattle.drive.specs.declared.running.Passed.{Passed}
 use Rattle.drive.specs.declared.running.Passed.TheVariants as passed
 use Rattle.drive.specs.Running.{Falls, HasPassed, IsEnd, IsPassed, Passes, Ran, SpendsAsMuch, left_of}
 use Rattle.drive.proofs.Reading.{held-now}
-use Rattle.drive.proofs.Turns.{KeepsParts, added, after-added, all-held-more, commit-ends, ran-kept, ran-longer, rise-more, turn-parts}
+use Rattle.drive.proofs.Turns.{KeepsParts, added, adds-commit, after-added, all-held-more, commit-ends, ran-kept, ran-longer, rise-more, turn-parts}
 
 stands-nil : (book : BookValue) (journal : List Entry) → StandsFor book journal → StandsFor book (journal ++ [])
 stands-nil book journal stands = subst (StandsFor book) (sym (append-nil journal)) stands
@@ -45,6 +45,7 @@ ran-passes book journal live next quantum stands is ready ran =
     record {
       later = [];
       stands = stands-nil book journal stands;
+      adds = refl;
       is = λ since by rise. record {
         same = keeps.call;
         is = record {
@@ -68,6 +69,7 @@ passes-along before after journal live next quantum made is passes =
     record {
       later = passes.later;
       stands = passes.stands;
+      adds = passes.adds;
       is = λ since by rise. passed-along before.grants before.limit (journal ++ passes.later) since live next made keeps.call
           (passes.is since by (subst (λ (reads : List ReadItem). MomentsRise since reads) (sym keeps.reads) rise));
     }
@@ -81,6 +83,7 @@ pub memory-passes : (book : BookValue) (journal : List Entry) (live : Live) → 
 memory-passes book journal live stands = record {
   later = [];
   stands = stands-nil book journal stands;
+  adds = refl;
   is = λ since by rise. record { holds = λ policy. tt; stays = tt };
 }
 
@@ -97,6 +100,7 @@ read-passes book journal live next table key stands is ran =
     record {
       later = [];
       stands = stands-nil book journal stands;
+      adds = refl;
       is = λ since by rise. record {
         same = ap (λ (l : Live). l.call) is;
         is = record {
@@ -139,6 +143,7 @@ pub end-passes : (before after : BookValue) (journal : List Entry) (live : Live)
 end-passes before after journal live call program rights reads outcome writes made of ran asked complete meant is stands = record {
   later = added made (entry_of call outcome writes reads);
   stands = subst (StandsFor after) (after-added made journal (entry_of call outcome writes reads)) stands;
+  adds = adds-commit before.limit journal call (entry_of call outcome writes reads) outcome reads made is;
   is = λ since by rise.
       subst (λ (c : Call). IsEnd before.grants before.limit (journal ++ added made (entry_of call outcome writes reads)) since c (ended.Settled made)) of.call_is
       (commit-ends before.grants before.limit journal since call program rights reads outcome writes made

@@ -36,9 +36,10 @@ use Rattle.book.specs.declared.ends.End.TheVariants as ended
 use Rattle.book.specs.Ends.{IsSettled, IsVerdict, ItemHolds, MomentsRise, StandsIn, moment_of}
 use Rattle.book.specs.Standing.{RanOn}
 use Rattle.book.specs.Verdict.{after_commit, entry_of, is_full, moved, verdict, verdict_on}
+use Rattle.session.specs.Standing.{Adds}
 use Rattle.session.proofs.Longer.{found-longer}
 use Rattle.session.proofs.LongerSteps.{texts-longer}
-use Rattle.drive.specs.Running.{IsEnd, Ran}
+use Rattle.drive.specs.Running.{IsEnd, Ran, entry_of_end}
 use Rattle.drive.proofs.Held.{all-held-longer}
 
 -- ---- What a turn keeps
@@ -177,6 +178,19 @@ settled-now grants limit journal since call program rights reads outcome writes 
 told-so : (given lack judged : Commit) → (given ≡ lack → ⊥) → (given ≡ lack) ⊎ (given ≡ judged) → given ≡ judged
 told-so given lack judged some (inl is) = absurd (some is)
 told-so given lack judged some (inr is) = is
+
+-- a commit adds the entry that it tells, or none
+pub adds-commit : (limit : ℕ) (journal : List Entry) (call : Call) (own : Entry) (outcome : Outcome) (reads : List ReadItem) (made : Commit)
+    → (made ≡ commit.Memory) ⊎ (made ≡ verdict limit journal call own outcome reads)
+    → Adds journal (added made own) (entry_of_end (ended.Settled made))
+adds-commit limit journal call own outcome reads (commit.Committed n shown) is =
+    let told : commit.Committed n shown ≡ verdict limit journal call own outcome reads =
+    told-so (commit.Committed n shown) commit.Memory (verdict limit journal call own outcome reads) (λ memory. cc) is in
+    (ap moment_of told ∙ verdict-at limit journal call own outcome reads, refl)
+adds-commit limit journal call own outcome reads (commit.Stale last at) is = refl
+adds-commit limit journal call own outcome reads (commit.Conflict table key read read_at now now_at) is = refl
+adds-commit limit journal call own outcome reads (commit.Full at) is = refl
+adds-commit limit journal call own outcome reads commit.Memory is = refl
 
 -- a run that was committed or refused has its end
 pub commit-ends : (grants : GrantsList) (limit : ℕ) (journal : List Entry) (since : ℕ) (call : Call) (program : Program) (rights : RightsList) (reads : List ReadItem) (outcome : Outcome) (writes : List Write) (given : Commit)

@@ -17,7 +17,10 @@ use Rattle.session.specs.declared.plan.Begun.{Begun}
 use Rattle.session.proofs.Longer.{item-longer}
 use Rattle.drive.specs.declared.running.Passed.{Passed}
 use Rattle.drive.specs.declared.running.Passed.TheVariants as passed
-use Rattle.drive.specs.Running.{Falls, IsEnd, IsEndOf, IsFresh, IsLive, IsLiveOf, IsNoted, IsOf, IsPassed, IsUnderWay, Passes, Ran, StandsOn, left_in, left_of}
+use Rattle.session.specs.Standing.{Adds}
+use Rattle.drive.specs.Joining.{AreCommitted}
+use Rattle.drive.specs.Running.{AreAll, Falls, IsEnd, IsEndOf, IsFresh, IsLive, IsLiveOf, IsNoted, IsOf, IsPassed, IsUnderWay, Passes, Ran, StandsOn, entry_of_turn, left_in, left_of}
+use Rattle.drive.proofs.Joining.{all-end, all-first, all-go-on, committed-first, committed-more, committed-still}
 use Rattle.drive.proofs.Turns.{ran-longer}
 
 all-over : {A : Type 0} (P Q : A → Type 0) (xs : List A) → ((x : A) → P x → Q x) → AllByRecursion P xs → AllByRecursion Q xs
@@ -58,12 +61,24 @@ end-of-longer grants limit journal more since begun one is = record {
 pub one-journal : (book : BookValue) (journal other : List Entry) → StandsFor book journal → StandsFor book other → journal ≡ other
 one-journal book journal other stands others = sym stands.is ∙ others.is
 
+-- what joined the journal is the entries of the ends that have come, with that of this turn
+abbrev pub CommittedThen : ℕ → List Entry → List CallEnd → ℕ → Passed → Type 0
+CommittedThen start journal ends place (passed.GoesOn next) = AreCommitted start journal ends
+CommittedThen start journal ends place (passed.Ends end) = AreCommitted start journal (ends ++ record { place = place; end = end } ∷ [])
+
+committed-turn : (start : ℕ) (journal later : List Entry) (ends : List CallEnd) (place : ℕ) (given : Passed) → AreCommitted start journal ends
+    → Adds journal later (entry_of_turn given) → CommittedThen start (journal ++ later) ends place given
+committed-turn start journal later ends place (passed.GoesOn next) committed adds = committed-still start journal later ends committed adds
+committed-turn start journal later ends place (passed.Ends end) committed adds = committed-more start journal later ends place end committed adds
+
 -- the first of those that are live has had its turn, and the others are live behind it
 pub record HasTurned (before now after : BookValue) (journal : List Entry) (begun : List Begun) (one : Begun) (rest : List Begun) (ends : List CallEnd) (given : Passed) : Type 0 where
   pub later : List Entry
   pub stands : StandsFor after (journal ++ later)
   pub rest_so : AllByRecursion (IsLiveOf before.grants (journal ++ later) (length journal) begun) rest
   pub ends_so : AllByRecursion (IsEndOf before.grants before.limit (journal ++ later) (length journal) begun) ends
+  pub all : AreAll begun (one ∷ rest) ends
+  pub committed : CommittedThen (length journal) (journal ++ later) ends one.place given
   pub of : IsOf begun one.place one.task.call
   pub passed_so : IsPassed before.grants before.limit (journal ++ later) (length journal) one.task given
 
@@ -89,6 +104,9 @@ turned before now after journal begun one rest ends given fixed way passes =
           subst (λ (j : List Entry). AllByRecursion (IsEndOf before.grants before.limit j (length journal) begun) ends) whole
           (all-over (IsEndOf before.grants before.limit here (length journal) begun) (IsEndOf before.grants before.limit (here ++ turn.later) (length journal) begun) ends
           (end-of-longer before.grants before.limit here turn.later (length journal) begun) way.ends_so);
+      all = way.all;
+      committed = subst (λ (j : List Entry). CommittedThen (length journal) j ends one.place given) whole
+          (committed-turn (length journal) here turn.later ends one.place given way.committed turn.adds);
       of = own.of;
       passed_so =
           subst (λ (j : List Entry). IsPassed before.grants before.limit j (length journal) one.task given) whole
@@ -114,6 +132,8 @@ goes-on before now after journal begun one rest ends next has = record {
   live_so = all-push (IsLiveOf before.grants (journal ++ has.later) (length journal) begun) rest (record { place = one.place; task = next }) has.rest_so
       (record { of = same-of begun one.place one.task.call next.call has.of has.passed_so.same; is = has.passed_so.is });
   ends_so = has.ends_so;
+  all = all-go-on begun one (record { place = one.place; task = next }) rest ends refl has.all;
+  committed = has.committed;
 }
 
 pub has-ended : (before now after : BookValue) (journal : List Entry) (begun : List Begun) (one : Begun) (rest : List Begun) (ends : List CallEnd) (end : End)
@@ -125,6 +145,8 @@ has-ended before now after journal begun one rest ends end has = record {
   live_so = has.rest_so;
   ends_so = all-push (IsEndOf before.grants before.limit (journal ++ has.later) (length journal) begun) ends (record { place = one.place; end = end }) has.ends_so
       (record { call = one.task.call; of = has.of; is = has.passed_so });
+  all = all-end begun one (record { place = one.place; end = end }) rest ends refl has.all;
+  committed = has.committed;
 }
 
 -- ---- The beginning
@@ -156,6 +178,8 @@ way-begins before journal begun stands fresh = record {
   stands = subst (StandsFor before) (sym (append-nil journal)) stands;
   live_so = all-fresh before.grants journal begun [] begun refl fresh;
   ends_so = tt;
+  all = all-first begun;
+  committed = committed-first journal;
 }
 
 -- ---- What is left

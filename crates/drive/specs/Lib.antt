@@ -1,3 +1,4 @@
+pub mod Joining
 pub mod Hearing
 pub mod Running
 pub mod Sendable

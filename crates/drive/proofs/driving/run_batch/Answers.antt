@@ -20,5 +20,7 @@ finish_batch-requires-clause-room c =
 
 pub returns-clause-answered : goal.returns-clause-answered
 returns-clause-answered c = λ journal stands.
+    let begun = c.requires.begun journal stands in
     batch-answered c.args.session.now c.finish_batch.new.self c.args.book.now c.run_all.new.book journal c.args.begun.items c.in_ok-ends.ends.items c.finish_batch.result
     (c.requires.fits journal stands) (c.in_ok-ends.ensures.ran journal stands) c.finish_batch.ensures.finished
+    begun.places begun.waiting c.finish_batch.ensures.told
