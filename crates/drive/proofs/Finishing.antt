@@ -19,7 +19,7 @@ use Rattle.drive.proofs.Batching.{ends-of-begun}
 use Rattle.drive.proofs.Joining.{ends-awaited, ends-of-each, ends-shown}
 
 pub batch-answered : (old new : Session) (before after : BookValue) (journal : List Entry) (begun_calls : List Begun) (ends : List CallEnd) (given : Answer)
-    → Fits old journal before.grants → IsUnderWay before after journal begun_calls [] ends
+    → Fits old journal before.grants → IsUnderWay old.conf.policy before after journal begun_calls [] ends
     → ((terms : Terms) (j : List Entry) (calls : List Asked) → terms.conf ≡ old.conf → length j < 2 ^ 64 → Fits old j terms.grants
     → Awaits old terms j calls → AllByRecursion (EndHolds old terms j calls) ends → Finishes terms j calls ends old new given)
     → PlacesRise 0 begun_calls → BegunWait old begun_calls → (OneOfEach ends → AreAwaited old ends → TellsEnds ends given)
@@ -30,7 +30,7 @@ batch-answered old new before after journal begun_calls ends given fits way fini
   stands = way.stands;
   shown = ends-shown (length journal) (journal ++ way.later) ends given way.committed
       (told (ends-of-each begun_calls ends places way.all)
-      (ends-awaited old before.grants before.limit (journal ++ way.later) (length journal) begun_calls ends waiting way.ends_so));
+      (ends-awaited old before.grants before.limit old.conf.policy (journal ++ way.later) (length journal) begun_calls ends waiting way.ends_so));
   finishes = λ calls awaits began.
       finishes (terms_over old before) (journal ++ way.later) calls refl (small-journal after (journal ++ way.later) way.stands)
       (fits-longer old journal way.later before.grants fits)

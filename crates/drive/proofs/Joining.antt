@@ -3,6 +3,7 @@ use Rattle.std.specs.Prelude.{◌==◌, Bool, true, false, slice_get, if◌then�
 use Rattle.std.specs.List.{AllByRecursion}
 use Rattle.std.proofs.Common.{◌≡◌, ◌≢◌, ◌≤◌, ◌<◌, ◌+◌, ◌⊎◌, ℕ, zero, suc, List, [], ◌∷◌, ◌++◌, length, Option, Some, None, refl, sym, subst, ap, ◌∙◌, inl, inr, arith, length-append, append-nil, append_assoc}
 use Rattle.std.proofs.lemmas.Bool.{cases_lt, eqb-true}
+use Rattle.sp_base.specs.declared.calls.Policy.{Policy}
 use Rattle.sp_base.specs.declared.outcomes.Outcome.{Outcome}
 use Rattle.records.specs.GrantsList.{GrantsList}
 use Rattle.journal.specs.declared.entry.Entry.{Entry}
@@ -253,12 +254,12 @@ ends-of-each begun ends rise all place =
     omega (arith, most, is)
 
 -- and the call of each waits for it
-pub ends-awaited : (session : Session) (grants : GrantsList) (limit : ℕ) (journal : List Entry) (since : ℕ) (begun : List Begun) (ends : List CallEnd)
-    → BegunWait session begun → AllByRecursion (IsEndOf grants limit journal since begun) ends → AreAwaited session ends
-ends-awaited session grants limit journal since begun [] wait are = tt
-ends-awaited session grants limit journal since begun (one ∷ ends) wait are =
+pub ends-awaited : (session : Session) (grants : GrantsList) (limit : ℕ) (policy : Policy) (journal : List Entry) (since : ℕ) (begun : List Begun) (ends : List CallEnd)
+    → BegunWait session begun → AllByRecursion (IsEndOf grants limit policy journal since begun) ends → AreAwaited session ends
+ends-awaited session grants limit policy journal since begun [] wait are = tt
+ends-awaited session grants limit policy journal since begun (one ∷ ends) wait are =
     let of = are.0.of in (
       subst (λ (place : ℕ). WaitsAt session.phase place) of.place_is
           (all-at (λ (call : Begun). WaitsAt session.phase call.place) begun of.at of.first wait of.found),
-      ends-awaited session grants limit journal since begun ends wait are.1,
+      ends-awaited session grants limit policy journal since begun ends wait are.1,
     )

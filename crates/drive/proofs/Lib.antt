@@ -4,6 +4,7 @@ pub mod Reading
 pub mod Turns
 pub mod Passing
 pub mod Joining
+pub mod Handing
 pub mod Ways
 pub mod Replying
 pub mod Batching
