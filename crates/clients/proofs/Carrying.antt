@@ -1,7 +1,7 @@
 -- A call at its client: how its run goes on and ends.
 use Rattle.std.specs.Prelude.{map}
 use Rattle.std.specs.List.{IsDistinct}
-use Rattle.std.proofs.Common.{◌≡◌, ◌≢◌, ◌≤◌, ◌<◌, ◌+◌, ◌*◌, ℕ, List, [], ◌∷◌, ◌++◌, length, Option, Some, None, IsTrue, refl, ap, sym, ◌∙◌, subst, length-append, arith}
+use Rattle.std.proofs.Common.{◌≡◌, ◌≢◌, ◌≤◌, ◌<◌, ℕ, List, [], ◌∷◌, length, None, IsTrue, ap, sym, subst, length-append, arith}
 use Rattle.sp_base.specs.Places.{same_place}
 use Rattle.sp_base.specs.declared.numbers.TableId.{TableId}
 use Rattle.sp_base.specs.declared.outcomes.Outcome.{Outcome}
@@ -11,7 +11,7 @@ use Rattle.sp_base.specs.declared.writes.Write.{Write}
 use Rattle.ext_mean.specs.declared.run.Run.{Run}
 use Rattle.ext_mean.specs.declared.run.Run.TheVariants as run
 use Rattle.ext_mean.specs.MeaningValues.{place_changed}
-use Rattle.ext_mean.specs.Outcomes.{EndsWith, changes_of, wanted_by}
+use Rattle.ext_mean.specs.Outcomes.{EndsWith, wanted_by}
 use Rattle.ext_mean.specs.Views.{part, place_of}
 use Rattle.ext_mean.proofs.AskedProved.{read-joins, reads-cost}
 use Rattle.ext_mean.proofs.ConfinementProved.{changed-once, within-limits}

@@ -1,17 +1,17 @@
 -- The places of pushed calls and the index of their callers.
-use Rattle.std.specs.Prelude.{◌==◌, ◌&&◌, slice_get, slice_index_or, slice_set, if◌then◌else◌}
+use Rattle.std.specs.Prelude.{◌==◌, slice_get, slice_index_or, slice_set, if◌then◌else◌}
 use Rattle.std.specs.HashMap.{get}
-use Rattle.std.proofs.Common.{◌≡◌, ◌≢◌, ◌<◌, ◌≤◌, ◌⊎◌, ℕ, zero, suc, Bool, true, false, List, [], ◌∷◌, ◌++◌, length, Option, Some, None, inl, inr, refl, ap, sym, ◌∙◌, subst, eq-eqb, arith}
+use Rattle.std.proofs.Common.{◌≡◌, ◌≢◌, ◌<◌, ◌⊎◌, ℕ, zero, suc, Bool, true, false, List, [], ◌∷◌, ◌++◌, length, Option, Some, None, inl, inr, refl, ap, sym, ◌∙◌, subst, eq-eqb, arith}
 use Rattle.std.proofs.lemmas.Bool.{and_parts, eqb-true}
 use Rattle.sp_base.specs.declared.calls.Call.{Call}
 use Rattle.sp_base.specs.declared.numbers.Caller.{Caller}
 use Rattle.journal.specs.Folds.{same_caller}
 use Rattle.clients.specs.declared.callers.Callers.{Callers}
-use Rattle.clients.specs.First.{first_of, with_first, without_first}
+use Rattle.clients.specs.First.{first_of}
 use Rattle.clients.specs.Numbering.{number_of, same_numbers}
 use Rattle.clients.specs.Placing.{ArePlaced, BeginsWith, EmptyBelow, StandsAt, somes}
 use Rattle.clients.specs.Pushed.{Pushed, is_callers}
-use Rattle.clients.proofs.Firsts.{IsFirst, NonePass, first-found, first-with, first-without, none-first, somes-begin}
+use Rattle.clients.proofs.Firsts.{IsFirst, first-found, none-first, somes-begin}
 
 -- ---- Callers
 

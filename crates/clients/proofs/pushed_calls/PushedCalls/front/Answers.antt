@@ -1,7 +1,7 @@
 -- The first place that is not empty has the call that was pushed first.
 use Rattle.std.specs.Prelude.{MatchOption, slice_get}
 use Rattle.std.specs.Option.{option_map}
-use Rattle.std.proofs.Common.{◌≡◌, ◌<◌, ◌≤◌, length, List, [], Option, Some, sym, ap, ◌∙◌, subst, arith}
+use Rattle.std.proofs.Common.{◌≡◌, ◌<◌, length, List, [], Option, Some, sym, ap, ◌∙◌, subst, arith}
 use Rattle.sp_base.specs.declared.numbers.Caller.{Caller}
 use Rattle.clients.specs.Placing.{BeginsWith, EmptyBelow}
 use Rattle.clients.specs.Pushed.{Pushed}

@@ -1,5 +1,5 @@
 -- The caller's call keeps its place, with one read more.
-use Rattle.std.proofs.Common.{◌≡◌, ◌<◌, length, List, Option, Some, None, sym, ap, ◌∙◌, subst, arith}
+use Rattle.std.proofs.Common.{◌≡◌, List, Option, Some, None, sym, ap, ◌∙◌, subst, arith}
 use Rattle.std.specs.Prelude.{slice_set}
 use Rattle.clients.specs.First.{first_of, with_first}
 use Rattle.clients.specs.Placing.{ArePlaced, somes}

@@ -1,5 +1,5 @@
 -- The caller's call stands where the index tells.
-use Rattle.std.proofs.Common.{◌≡◌, ◌<◌, length, Some, sym, ap, ◌∙◌, arith}
+use Rattle.std.proofs.Common.{Some, sym, ap, ◌∙◌, arith}
 use Rattle.clients.specs.First.{first_of}
 use Rattle.clients.specs.Pushed.{is_callers}
 use Rattle.clients.proofs.Places.{get-at, kept-at, none-of}
