@@ -5,8 +5,7 @@ use Rattle.wire.specs.declared.faults.WireFault.TheVariants as wrong
 use Rattle.std.specs.List.{AllByRecursion}
 use Rattle.std.specs.declared.vec.Vec.{Vec}
 use Rattle.std.specs.declared.alloc.Global.{Global}
-use Rattle.std.proofs.Common.{◌≡◌, ◌≢◌, ◌≤◌, ◌+◌, ℕ, List, [], ◌∷◌, ◌++◌, length, Bool, Option, Some, None, refl, sym, subst, ap, ◌∙◌, arith, length-append, append-nil, append_assoc}
-use Rattle.sp_base.specs.declared.calls.Asked.{Asked}
+use Rattle.std.proofs.Common.{◌≡◌, ℕ, List, [], ◌∷◌, ◌++◌, length, Option, Some, None, refl, sym, subst, ap, ◌∙◌, append-nil, append_assoc}
 use Rattle.sp_base.specs.declared.numbers.TenantId.{TenantId}
 use Rattle.records.specs.GrantsList.{GrantsList}
 use Rattle.journal.specs.declared.entry.Entry.{Entry}
@@ -22,7 +21,6 @@ use Rattle.session.specs.declared.plan.Ask.{Ask}
 use Rattle.session.specs.declared.plan.Plan.{Plan}
 use Rattle.session.specs.declared.plan.Plan.TheVariants as plan
 use Rattle.session.specs.declared.session.Admitted.{Admitted}
-use Rattle.session.specs.declared.session.Phase.{Phase}
 use Rattle.session.specs.declared.session.Phase.TheVariants as phase
 use Rattle.session.specs.declared.session.Session.{Session}
 use Rattle.session.specs.Standing as standing
@@ -30,16 +28,16 @@ use Rattle.session.specs.Standing.{Asks, Awaits, EndsBy, Fits, HasBegun, HasEnde
 use Rattle.session.specs.States.{State, Terms}
 use Rattle.session.specs.Steps.{faulted, is_in_turn}
 use Rattle.session.specs.declared.fault.Fault.TheVariants as fault
-use Rattle.wire.specs.declared.items.Item.{Item}
 use Rattle.drive.specs.declared.driving.Reply.{Reply}
 use Rattle.drive.specs.declared.driving.Reply.TheVariants as reply
-use Rattle.drive.specs.Batches.{HaveBegun, IsBatchAnswered}
+use Rattle.drive.specs.Batches.{IsBatchAnswered}
 use Rattle.drive.specs.Hearing as hearing
-use Rattle.drive.specs.Hearing.{GoesOn, IsReadyAfter, IsReplyWithin, MayBeDriven, NoRequest, Replies, RepliesFrom, reply_of}
+use Rattle.drive.specs.Hearing.{GoesOn, IsReadyAfter, IsReplyWithin, MayBeDriven, NoRequest, Replies, RepliesFrom, answers_of, reply_of}
+use Rattle.drive.specs.Joining.{AreShown}
 use Rattle.drive.specs.Running.{StandsOn}
 use Rattle.drive.proofs.Answering.{terms-same}
-use Rattle.drive.proofs.Replying.{fits-each, reply-leads, reply-ready, reply-within, spelled-message}
-use Rattle.drive.proofs.Ways.{one-journal}
+use Rattle.drive.proofs.Joining.{adds-shown, none-shown, shown-then}
+use Rattle.drive.proofs.Replying.{answers-reply, fits-each, reply-leads, reply-ready, reply-within, spelled-message}
 
 -- ---- A request that was refused
 
@@ -51,6 +49,7 @@ refused-replies old new book journal body message given made is may stands spell
     record {
       later = [];
       stands = whole;
+      shown = none-shown journal [] (answers_of made) refl;
       from_each = λ state was.
           subst (λ (r : Reply). RepliesFrom (terms_over old book) (journal ++ []) state body new r) (sym is)
           (reply-leads (terms_over old book) (journal ++ []) state body message given new spelled
@@ -65,13 +64,6 @@ may-after old new before after may conf fixed fits ready = record {
   audit = ap (λ (c : SessionConf). c.audit) conf ∙ may.audit ∙ sym fixed.audit;
 }
 
-pub refused-ready : (old new : Session) (book : BookValue) (message : Request) (given : Answer) (made : Reply) → made ≡ reply_of given
-    → MayBeDriven old book → Refused old new message given → IsReadyAfter new book made
-refused-ready old new book message given made is may refused =
-    subst (λ (r : Reply). IsReadyAfter new book r) (sym is)
-    (reply-ready given new book refused.ends (may-after old new book book may refused.conf (record { grants = refl; limit = refl; audit = refl })
-    (λ j stands. refused.fits j book.grants (may.fits j stands))))
-
 pub within-reply : (given : Answer) (made : Reply) → made ≡ reply_of given → IsWithin given → IsReplyWithin made
 within-reply given made is within = subst (λ (r : Reply). IsReplyWithin r) (sym is) (reply-within given within)
 
@@ -79,16 +71,6 @@ within-reply given made is within = subst (λ (r : Reply). IsReplyWithin r) (sym
 
 apart : (new : Session) → HasEnded new → IsOpen new → ⊥
 apart new ended ready = (let clash : phase.Ended ≡ phase.Open = sym ended ∙ ready in cc)
-
-goes-on-open : (given : Answer) (new : Session) → EndsBy given new → IsOpen new → GoesOn given
-goes-on-open (answer.Welcome rights at) new ends ready = tt
-goes-on-open (answer.Installed given) new ends ready = tt
-goes-on-open (answer.Answers items) new ends ready = tt
-goes-on-open (answer.Fetched given) new ends ready = tt
-goes-on-open (answer.Finished given) new ends ready = tt
-goes-on-open (answer.PutDone given) new ends ready = tt
-goes-on-open (answer.Text given) new ends ready = tt
-goes-on-open (answer.Fault code) new ends ready = apart new ends ready
 
 stops-ended : (given : Answer) (new : Session) → EndsBy given new → HasEnded new → GoesOn given → ⊥
 stops-ended (answer.Welcome rights at) new ends ended on = apart new ended ends
@@ -106,22 +88,11 @@ pub sent-replies : (old new : Session) (before after : BookValue) (journal : Lis
 sent-replies old new before after journal body message given spelled planned = record {
   later = planned.later;
   stands = planned.stands;
+  shown = adds-shown journal planned.later given planned.adds;
   from_each = λ state was.
       let leads = planned.does.0.explained state was in
       (leads.next, spelled-message (terms_over old before) (journal ++ planned.later) state body message given leads.next spelled leads.step, leads.stands);
 }
-
-pub sent-ready : (old new : Session) (before after : BookValue) (journal : List Entry) (message : Request) (given : Answer)
-    → MayBeDriven old before → KeepsFixed before after → Planned old new before after journal message (plan.Send given)
-    → IsReadyAfter new after (reply.GoesOn given)
-sent-ready old new before after journal message given may fixed planned = (
-  may-after old new before after may planned.conf fixed (fits-each new after (journal ++ planned.later) planned.stands planned.fits) planned.does.1,
-  goes-on-open given new planned.does.0.ends planned.does.1,
-)
-
-pub sent-within : (old new : Session) (before after : BookValue) (journal : List Entry) (message : Request) (given : Answer)
-    → Planned old new before after journal message (plan.Send given) → IsWithin given
-sent-within old new before after journal message given planned = planned.does.0.within
 
 pub stopped-replies : (old new : Session) (before after : BookValue) (journal : List Entry) (body : List ℕ) (message : Request) (given : Option Answer)
     → SpellsRequest body message → Planned old new before after journal message (plan.Stop given)
@@ -129,6 +100,7 @@ pub stopped-replies : (old new : Session) (before after : BookValue) (journal : 
 stopped-replies old new before after journal body message (Some given) spelled planned = record {
   later = planned.later;
   stands = planned.stands;
+  shown = none-shown journal planned.later (given ∷ []) planned.adds;
   from_each = λ state was.
       let leads = planned.does.0.explained state was in (
         leads.next,
@@ -141,6 +113,7 @@ stopped-replies old new before after journal body message (Some given) spelled p
 stopped-replies old new before after journal body message None spelled planned = record {
   later = planned.later;
   stands = planned.stands;
+  shown = none-shown journal planned.later [] planned.adds;
   from_each = λ state was.
       let bye = planned.does.bye in (
         state,
@@ -151,50 +124,23 @@ stopped-replies old new before after journal body message None spelled planned =
       );
 }
 
-pub stopped-within : (old new : Session) (before after : BookValue) (journal : List Entry) (message : Request) (given : Option Answer)
-    → Planned old new before after journal message (plan.Stop given) → IsReplyWithin (reply.Last given)
-stopped-within old new before after journal message (Some given) planned = planned.does.0.within
-stopped-within old new before after journal message None planned = tt
-
 -- ---- A plan that runs a batch
-
-in-phase : (stands : Phase) (items : List Item) → ItemsSoFar stands items → IsInPhase stands
-in-phase phase.Open items so_far = absurd so_far
-in-phase (phase.Running running) items so_far = tt
-in-phase phase.Ended items so_far = absurd so_far
-
-pub runs-running : (old new : Session) (before after : BookValue) (journal : List Entry) (message : Request) (begun_calls : Vec Begun Global)
-    → Planned old new before after journal message (plan.Run begun_calls) → IsRunning new
-runs-running old new before after journal message begun_calls planned = in-phase new.phase planned.does.awaits.items planned.does.awaits.so_far
-
-pub runs-begun : (old new : Session) (before after : BookValue) (journal : List Entry) (message : Request) (begun_calls : Vec Begun Global)
-    → KeepsFixed before after → Planned old new before after journal message (plan.Run begun_calls)
-    → (other : List Entry) → StandsFor after other → HaveBegun new after other begun_calls.items
-runs-begun old new before after journal message begun_calls fixed planned other others =
-    let here = journal ++ planned.later in
-    let runs = planned.does in
-    let own = terms-same old new before after planned.conf fixed in
-    let begun : HaveBegun new after here begun_calls.items = record {
-      calls = runs.calls;
-      awaits = subst (λ (t : Terms). Awaits new t here runs.calls) (sym own) runs.awaits;
-      each = subst (λ (g : GrantsList). AllByRecursion (HasBegun new g here runs.calls) begun_calls.items) (sym fixed.grants) runs.each;
-    } in
-    subst (λ (j : List Entry). HaveBegun new after j begun_calls.items) (one-journal after here other planned.stands others) begun
 
 -- the batch was answered, over the journal for which the book then stands
 pub record IsFinished (old new : Session) (before after : BookValue) (journal : List Entry) (message : Request) (given : Answer) : Type 0 where
   pub later : List Entry
   pub stands : StandsFor after (journal ++ later)
+  pub shown : AreShown (length journal) (journal ++ later) (given ∷ [])
   pub explained : standing.Explains (terms_over old before) (journal ++ later) (Stands old) new message given
   pub ends : EndsBy given new
   pub within : IsWithin given
   pub fits : Fits new (journal ++ later) after.grants
 
-pub batch-finished : (old mid new : Session) (before between after : BookValue) (journal : List Entry) (message : Request) (begun_calls : Vec Begun Global) (given : Answer)
+pub batch-finished : (quantum : ℕ) (old mid new : Session) (before between after : BookValue) (journal : List Entry) (message : Request) (begun_calls : Vec Begun Global) (given : Answer)
     → KeepsFixed before between → KeepsFixed between after → Planned old mid before between journal message (plan.Run begun_calls)
-    → ((j : List Entry) → StandsFor between j → IsBatchAnswered mid new between after j begun_calls.items given)
+    → ((j : List Entry) → StandsFor between j → IsBatchAnswered quantum mid new between after j begun_calls.items given)
     → IsFinished old new before after journal message given
-batch-finished old mid new before between after journal message begun_calls given fixed fixed_then planned answered =
+batch-finished quantum old mid new before between after journal message begun_calls given fixed fixed_then planned answered =
     let here = journal ++ planned.later in
     let done = answered here planned.stands in
     let runs = planned.does in
@@ -206,6 +152,7 @@ batch-finished old mid new before between after journal message begun_calls give
     record {
       later = planned.later ++ done.later;
       stands = subst (StandsFor after) whole done.stands;
+      shown = shown-then journal planned.later done.later [] (given ∷ []) (none-shown journal planned.later [] planned.adds) done.shown;
       explained = λ state was.
           subst (λ (m : Request). standing.Leads (terms_over old before) (journal ++ (planned.later ++ done.later)) state new m given) (sym runs.batch)
           (subst (λ (j : List Entry). standing.Leads (terms_over old before) j state new (request.Batch runs.calls) given) whole
@@ -223,6 +170,8 @@ pub finished-replies : (old new : Session) (before after : BookValue) (journal :
 finished-replies old new before after journal body message given made is spelled finished = record {
   later = finished.later;
   stands = finished.stands;
+  shown = subst (λ (answers : List Answer). AreShown (length journal) (journal ++ finished.later) answers)
+      (sym (ap answers_of is ∙ answers-reply given)) finished.shown;
   from_each = λ state was.
       subst (λ (r : Reply). RepliesFrom (terms_over old before) (journal ++ finished.later) state body new r) (sym is)
       (reply-leads (terms_over old before) (journal ++ finished.later) state body message given new spelled (finished.explained state was));
@@ -245,9 +194,6 @@ finished-ready old new before after journal message given made is may conf fixed
 
 -- ---- The book behind it
 
-pub stands-now : (book : BookValue) (journal : List Entry) → StandsFor book journal → StandsOn book journal
-stands-now book journal stands = record { later = []; stands = subst (StandsFor book) (sym (append-nil journal)) stands }
-
 pub stands-then : (after : BookValue) (journal later : List Entry) → StandsOn after (journal ++ later) → StandsOn after journal
 stands-then after journal later on = record {
   later = later ++ on.later;
@@ -262,6 +208,7 @@ pub unheard-replies : (old new : Session) (book : BookValue) (journal : List Ent
 unheard-replies old new book journal body stands none still = record {
   later = [];
   stands = subst (StandsFor book) (sym (append-nil journal)) stands;
+  shown = none-shown journal [] (faulted fault.BadFrame ∷ []) refl;
   from_each = λ state was. (state, hearing.by_no_request none, still state was);
 }
 

@@ -1,6 +1,6 @@
 -- Reads that the journal held, in a longer one.
 use Rattle.std.specs.List.{AllByRecursion}
-use Rattle.std.proofs.Common.{◌≡◌, List, [], ◌∷◌, ◌++◌, length, take, sym, ap, ◌∙◌, arith, length-append}
+use Rattle.std.proofs.Common.{◌≡◌, List, [], ◌∷◌, ◌++◌, take, sym, ap, ◌∙◌, arith, length-append}
 use Rattle.std.proofs.lemmas.List.{take-append-le}
 use Rattle.sp_base.specs.declared.reads.ReadItem.{ReadItem}
 use Rattle.ext_mean.specs.Views.{place_of}

@@ -1,6 +1,6 @@
 -- How long answers are: within the limit of frames.
 use Rattle.std.specs.List.{AllByRecursion, flat_map}
-use Rattle.std.proofs.Common.{◌≡◌, ◌≤◌, ◌+◌, ◌*◌, ℕ, suc, List, [], ◌∷◌, ◌++◌, length, sum_by, Option, Some, None, refl, ap, arith, length-append}
+use Rattle.std.proofs.Common.{◌≡◌, ◌≤◌, ◌+◌, ◌*◌, ℕ, List, [], ◌∷◌, ◌++◌, length, Option, Some, None, refl, arith, length-append}
 use Rattle.std.proofs.lemmas.List.Sums.{sum_by-cons}
 use Rattle.sp_base.specs.declared.numbers.TableId.{TableId}
 use Rattle.sp_base.specs.declared.outcomes.Outcome.{Outcome}
@@ -14,13 +14,9 @@ use Rattle.wire.specs.Answers as answers
 use Rattle.wire.specs.Answers.{FitItems, FitsAnswer, FitsBatchItem, FitsItem}
 use Rattle.wire.specs.declared.answers.Answer.{Answer}
 use Rattle.wire.specs.declared.answers.Answer.TheVariants as answer
-use Rattle.wire.specs.declared.answers.FetchAnswer.{FetchAnswer}
 use Rattle.wire.specs.declared.answers.FetchAnswer.TheVariants as fetched
-use Rattle.wire.specs.declared.answers.InstallAnswer.{InstallAnswer}
 use Rattle.wire.specs.declared.answers.InstallAnswer.TheVariants as installed
-use Rattle.wire.specs.declared.answers.PutAnswer.{PutAnswer}
 use Rattle.wire.specs.declared.answers.PutAnswer.TheVariants as puts
-use Rattle.wire.specs.declared.answers.TextAnswer.{TextAnswer}
 use Rattle.wire.specs.declared.answers.TextAnswer.TheVariants as texts
 use Rattle.wire.specs.declared.items.Item.{Item}
 use Rattle.wire.specs.declared.items.Item.TheVariants as item

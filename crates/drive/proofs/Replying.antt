@@ -1,7 +1,5 @@
 -- Frames are answered, one after another, over a journal that grows.
-use Rattle.std.specs.Prelude.{Bool, true, false}
-use Rattle.std.specs.List.{AllByRecursion, flat_map}
-use Rattle.std.proofs.Common.{◌≡◌, ◌≤◌, ◌+◌, ℕ, List, [], ◌∷◌, ◌++◌, length, Option, Some, None, refl, sym, subst, ap, ◌∙◌, arith, length-append, append-nil, append_assoc}
+use Rattle.std.proofs.Common.{◌≡◌, ℕ, List, [], ◌∷◌, ◌++◌, refl, sym, subst, ap, ◌∙◌, append-nil, append_assoc}
 use Rattle.sp_base.specs.Spelling.{frame}
 use Rattle.journal.specs.declared.entry.Entry.{Entry}
 use Rattle.wire.specs.Answers as spelling
@@ -17,7 +15,7 @@ use Rattle.session.specs.States.{State, Terms}
 use Rattle.session.specs.Steps.{Step}
 use Rattle.session.proofs.LongerSteps.{step-longer}
 use Rattle.drive.specs.Hearing as hearing
-use Rattle.drive.specs.Hearing.{Answered, GoesOn, IsAnswered, IsReadyAfter, IsReplyWithin, MayBeDriven, RepliesFrom, frames_of, reply_of}
+use Rattle.drive.specs.Hearing.{Answered, GoesOn, IsAnswered, IsReadyAfter, IsReplyWithin, MayBeDriven, RepliesFrom, answers_of, frames_of, reply_of}
 use Rattle.drive.proofs.Ways.{one-journal}
 
 is-answered-longer : (terms : Terms) (journal later : List Entry) (state : State) (body : List ℕ) (given : Answer) (next : State)
@@ -73,6 +71,17 @@ reply-leads terms journal state body message (answer.Fault code) new spelled lea
   hearing.by_fault (answer.Fault code) leads.next (spelled-message terms journal state body message _ leads.next spelled leads.step) (no-fault code),
   leads.stands,
 )
+
+-- the answer of such a reply
+pub answers-reply : (given : Answer) → answers_of (reply_of given) ≡ given ∷ []
+answers-reply (answer.Welcome rights at) = refl
+answers-reply (answer.Installed given) = refl
+answers-reply (answer.Answers items) = refl
+answers-reply (answer.Fetched given) = refl
+answers-reply (answer.Finished given) = refl
+answers-reply (answer.PutDone given) = refl
+answers-reply (answer.Text given) = refl
+answers-reply (answer.Fault code) = refl
 
 -- a reply that is an answer of a session is within its limits
 pub reply-within : (given : Answer) → IsWithin given → IsReplyWithin (reply_of given)

@@ -1,10 +1,10 @@
 -- What a turn tells of the phase behind it.
-use Rattle.std.proofs.Common.{◌≡◌, ◌≢◌, ℕ, List, refl, sym, subst, ◌∙◌}
+use Rattle.std.proofs.Common.{◌≡◌, ℕ, List, refl, sym, subst}
 use Rattle.sp_base.specs.declared.numbers.TableId.{TableId}
 use Rattle.task.specs.declared.phase.Phase.{Phase}
 use Rattle.task.specs.declared.phase.Phase.TheVariants as phase
 use Rattle.task.specs.declared.turned.Turned.TheVariants as told
-use Rattle.task.specs.Tasks.{GoesOn as On, HasEnded, told_of}
+use Rattle.task.specs.Tasks.{GoesOn as On, told_of}
 
 pub ran-ready : (stands : Phase) → told.Ran ≡ told_of stands → stands ≡ phase.Ready
 ran-ready phase.Ready e = refl
@@ -15,11 +15,6 @@ pub wants-waits : (stands : Phase) (table : TableId) (key : List ℕ) → told.W
 wants-waits phase.Ready table key e = (cc)
 wants-waits (phase.Waiting other another) table key e = (cc)
 wants-waits (phase.Ended outcome writes) table key e = (cc)
-
-pub ended-ends : (stands : Phase) → told.Ended ≡ told_of stands → HasEnded stands
-ended-ends phase.Ready e = absurd (cc)
-ended-ends (phase.Waiting table key) e = absurd (cc)
-ended-ends (phase.Ended outcome writes) e = tt
 
 pub ready-on : (stands : Phase) → stands ≡ phase.Ready → On stands
 ready-on stands is = subst (λ (p : Phase). On p) (sym is) tt

@@ -1,4 +1,7 @@
+pub mod Joining
 pub mod Hearing
+pub mod Placing
 pub mod Running
 pub mod Sendable
+pub mod Turns
 pub mod Batches

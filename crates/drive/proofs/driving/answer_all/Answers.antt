@@ -2,8 +2,6 @@
 use Rattle.std.specs.Prelude.{true, false}
 use Rattle.std.specs.Vec.Iter.{into_iter_items}
 use Rattle.std.proofs.Common.{◌≡◌, ℕ, List, [], ◌∷◌, ◌++◌, ◌∙◌, ap, refl, sym, subst, append_assoc, rules}
-use Rattle.journal.specs.declared.entry.Entry.{Entry}
-use Rattle.book.specs.Standing.{StandsFor}
 use Rattle.drive.specs.declared.driving.Reply.{Reply}
 use Rattle.drive.specs.Hearing.{Replies, is_last}
 use Rattle.drive.proofs.Answering.{hears-end, hears-nothing, hears-reply, ready-on}

@@ -1,12 +1,7 @@
 -- The session's plan is carried out.
-use Rattle.std.proofs.Common.{List, ◌++◌, sym, subst, ap, ◌∙◌}
-use Rattle.wire.specs.declared.requests.Request.{Request}
-use Rattle.wire.specs.Requests.{FitsRequest}
+use Rattle.std.proofs.Common.{◌∙◌}
 use Rattle.session.specs.declared.plan.Plan.TheVariants as plan
-use Rattle.session.specs.declared.session.Session.{Session}
-use Rattle.session.specs.Standing.{Fits, IsAsked}
-use Rattle.drive.proofs.Asking.{batch-finished, finished-ready, finished-replies, fixed-then, planned-of, refused-ready, refused-replies, runs-begun, runs-running, sent-ready, sent-replies, sent-within, stands-now, stands-then, stopped-replies, stopped-within, within-reply}
-use Rattle.drive.proofs.Replying.{fits-each}
+use Rattle.drive.proofs.Asking.{batch-finished, finished-ready, finished-replies, fixed-then, planned-of, refused-replies, sent-replies, stopped-replies, within-reply}
 use Rattle.drive.proofs.driving.answer_to.Goals as goal
 
 pub returns-in-Err-clause-replied : goal.returns-in-Err-clause-replied
@@ -30,7 +25,7 @@ pub returns-in_ok-answer-in-Run-clause-replied : goal.returns-in_ok-answer-in-Ru
 returns-in_ok-answer-in-Run-clause-replied c = λ journal stands body spelled.
     finished-replies c.args.session.now c.run_batch.new.session c.args.book.now c.run_batch.new.book journal body c.args.request c.in_ok-answer-in-Run.answer c.reply_of-in-Run.result
     c.reply_of-in-Run.ensures spelled
-    (batch-finished c.args.session.now c.answer.new.self c.run_batch.new.session c.args.book.now c.answer.new.book c.run_batch.new.book journal c.args.request c.in-Run.begun c.in_ok-answer-in-Run.answer
+    (batch-finished c.args.quantum c.args.session.now c.answer.new.self c.run_batch.new.session c.args.book.now c.answer.new.book c.run_batch.new.book journal c.args.request c.in-Run.begun c.in_ok-answer-in-Run.answer
     c.answer.ensures.fixed c.run_batch.ensures.fixed
     (planned-of c.args.session.now c.prepare.new.self c.answer.new.self c.args.book.now c.answer.new.book journal c.args.request c.in-Ok.ask c.answer.result (plan.Run c.in-Run.begun)
     c.in-Ok.ensures.asked c.in-Run.is (c.answer.ensures.planned journal stands))
@@ -43,7 +38,7 @@ returns-in_ok-answer-in-Run-clause-ready c =
     finished-ready c.args.session.now c.run_batch.new.session c.args.book.now c.run_batch.new.book journal c.args.request c.in_ok-answer-in-Run.answer c.reply_of-in-Run.result
     c.reply_of-in-Run.ensures c.requires.ready (c.run_batch.ensures.conf ∙ planned.conf ∙ c.in-Ok.ensures.asked.conf)
     (fixed-then c.args.book.now c.answer.new.book c.run_batch.new.book c.answer.ensures.fixed c.run_batch.ensures.fixed)
-    (batch-finished c.args.session.now c.answer.new.self c.run_batch.new.session c.args.book.now c.answer.new.book c.run_batch.new.book journal c.args.request c.in-Run.begun c.in_ok-answer-in-Run.answer
+    (batch-finished c.args.quantum c.args.session.now c.answer.new.self c.run_batch.new.session c.args.book.now c.answer.new.book c.run_batch.new.book journal c.args.request c.in-Run.begun c.in_ok-answer-in-Run.answer
     c.answer.ensures.fixed c.run_batch.ensures.fixed
     (planned-of c.args.session.now c.prepare.new.self c.answer.new.self c.args.book.now c.answer.new.book journal c.args.request c.in-Ok.ask c.answer.result (plan.Run c.in-Run.begun)
     c.in-Ok.ensures.asked c.in-Run.is planned)
@@ -52,7 +47,7 @@ returns-in_ok-answer-in-Run-clause-ready c =
 pub returns-in_ok-answer-in-Run-clause-within : goal.returns-in_ok-answer-in-Run-clause-within
 returns-in_ok-answer-in-Run-clause-within c =
     let journal = c.requires.stands.0 in
-    let finished = batch-finished c.args.session.now c.answer.new.self c.run_batch.new.session c.args.book.now c.answer.new.book c.run_batch.new.book journal c.args.request c.in-Run.begun c.in_ok-answer-in-Run.answer
+    let finished = batch-finished c.args.quantum c.args.session.now c.answer.new.self c.run_batch.new.session c.args.book.now c.answer.new.book c.run_batch.new.book journal c.args.request c.in-Run.begun c.in_ok-answer-in-Run.answer
     c.answer.ensures.fixed c.run_batch.ensures.fixed
     (planned-of c.args.session.now c.prepare.new.self c.answer.new.self c.args.book.now c.answer.new.book journal c.args.request c.in-Ok.ask c.answer.result (plan.Run c.in-Run.begun)
     c.in-Ok.ensures.asked c.in-Run.is (c.answer.ensures.planned journal c.requires.stands.1))
