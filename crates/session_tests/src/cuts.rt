@@ -1,4 +1,5 @@
-// What is said does not depend on where the bytes are cut.
+//! What is said does not depend on where the bytes are cut.
+
 ghost use Rattle.std.specs.Prelude.{◌≤◌, length};
 
 use crate::bench::Bench;

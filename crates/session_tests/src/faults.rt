@@ -1,4 +1,5 @@
-// What ends a session, and that nothing behind it is heard.
+//! What ends a session, and that nothing behind it is heard.
+
 use crate::bench::{Bench, ends_behind};
 use crate::stores::counters;
 use std::test::Fail;
