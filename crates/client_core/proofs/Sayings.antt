@@ -17,12 +17,12 @@ use Rattle.sp_base.specs.declared.writes.Change.TheVariants.{Put, Del}
 use Rattle.sp_base.specs.declared.writes.Write.{Write}
 use Rattle.ext_mean.specs.declared.run.Run.{Run}
 use Rattle.ext_mean.specs.declared.run.Run.TheVariants as run
+use Rattle.ext_mean.specs.declared.tree.Program.{Program}
 use Rattle.ext_mean.specs.Confinement.{IsWithinLimits}
 use Rattle.ext_mean.specs.Meaning.{mean}
 use Rattle.ext_mean.specs.Outcomes.{ChangeFits, EndsWith, PutFits, ReplyFits, changes_of, outcome_of, wanted_by}
 use Rattle.ext_mean.specs.Views.{part}
 use Rattle.ext_mean.proofs.ConfinementProved.{only-readable, only-writable, within-limits}
-use Rattle.task.specs.Extensions.{ExtValue}
 use Rattle.wire.specs.declared.requests.Request.TheVariants.{Finish, Fetch, TextOf}
 use Rattle.client_core.specs.declared.answered.CallAnswer.{CallAnswer}
 use Rattle.client_core.specs.declared.next.Next.TheVariants.{Send, Answered, PeerFault, Memory}
@@ -30,7 +30,7 @@ use Rattle.client_core.specs.declared.stage.Awaited.TheVariants.{TheText, TheRec
 use Rattle.client_core.specs.declared.stage.Carried.{Carried}
 use Rattle.client_core.specs.declared.stage.Stage.TheVariants.{Idle, Carries}
 use Rattle.client_core.specs.Finishing.{IsSayable}
-use Rattle.client_core.specs.Talking.{Known, after_run, ext_in, fault, finishing}
+use Rattle.client_core.specs.Talking.{Known, after_run, fault, finishing, program_in}
 
 -- the second of two tests that both hold
 second : (a b : Bool) → IsTrue (a && b) → IsTrue b
@@ -101,12 +101,12 @@ fetching-sayable known carried table key caller number small sized = record {
   rests = λ answers same. absurd (cc);
 }
 
-finishing-sayable : (known : Known) (carried : Carried) (ext : ExtValue) (outcome : Outcome) (writes : List Write)
-    → ext_in known.exts carried.call.ext ≡ Some ext
+finishing-sayable : (known : Known) (carried : Carried) (program : Program) (outcome : Outcome) (writes : List Write)
+    → program_in known.programs carried.call.ext ≡ Some program
     → IsU32 carried.call.caller.number → IsU64 carried.call.number.0 → FitsOutcome outcome → FitWrites writes
-    → EndsWith (mean ext.program carried.call.args carried.call.budget (part carried.reads known.rights)) outcome writes
+    → EndsWith (mean program carried.call.args carried.call.budget (part carried.reads known.rights)) outcome writes
     → IsSayable known (finishing carried outcome writes)
-finishing-sayable known carried ext outcome writes given caller number fits each ends = record {
+finishing-sayable known carried program outcome writes given caller number fits each ends = record {
   told = λ same. (cc);
   fits = (caller, (number, (fits, each)));
   meant = record {
@@ -118,31 +118,31 @@ finishing-sayable known carried ext outcome writes given caller number fits each
           carries = refl;
           caller_is = (cc);
           number_is = (cc);
-          ext = ext;
+          program = program;
           given = given;
           ends =
-              subst (λ (list : List Write). EndsWith (mean ext.program carried.call.args carried.call.budget (part carried.reads known.rights)) sent list) other
-              (subst (λ (o : Outcome). EndsWith (mean ext.program carried.call.args carried.call.budget (part carried.reads known.rights)) o writes) one ends);
+              subst (λ (list : List Write). EndsWith (mean program carried.call.args carried.call.budget (part carried.reads known.rights)) sent list) other
+              (subst (λ (o : Outcome). EndsWith (mean program carried.call.args carried.call.budget (part carried.reads known.rights)) o writes) one ends);
         };
   };
   rests = λ answers same. absurd (cc);
 }
 
 -- the end of a run is sayable
-ended-sayable : (known : Known) (carried : Carried) (ext : ExtValue) (outcome : Outcome) (writes : List Write)
-    → ext_in known.exts carried.call.ext ≡ Some ext
+ended-sayable : (known : Known) (carried : Carried) (program : Program) (outcome : Outcome) (writes : List Write)
+    → program_in known.programs carried.call.ext ≡ Some program
     → IsU32 carried.call.caller.number → IsU64 carried.call.number.0
     → ((code : ℕ) (bytes : List ℕ) → outcome ≡ outcomes.Done (record { code = code; bytes = bytes }) → IsU64 code)
-    → EndsWith (mean ext.program carried.call.args carried.call.budget (part carried.reads known.rights)) outcome writes
+    → EndsWith (mean program carried.call.args carried.call.budget (part carried.reads known.rights)) outcome writes
     → IsSayable known (finishing carried outcome writes)
-ended-sayable known carried ext outcome writes given caller number code ends =
-    let small = within-limits ext.program carried.call.args carried.call.budget (part carried.reads known.rights) in
-    let may = only-writable ext.program carried.call.args carried.call.budget (part carried.reads known.rights) in
+ended-sayable known carried program outcome writes given caller number code ends =
+    let small = within-limits program carried.call.args carried.call.budget (part carried.reads known.rights) in
+    let may = only-writable program carried.call.args carried.call.budget (part carried.reads known.rights) in
     let few : length writes ≤ 255 = omega (arith, small.few, ap length ends.leaves) in
     let each : AllByRecursion FitsWrite writes =
     subst (λ (list : List Write). AllByRecursion FitsWrite list) ends.leaves
     (each-fits known.rights _ may small.keys small.values) in
-    finishing-sayable known carried ext outcome writes given caller number
+    finishing-sayable known carried program outcome writes given caller number
     (outcome-fits _ outcome small ends.answers code) (few, each) ends
 
 -- the code of a run that came to its end has 64 bits
@@ -153,22 +153,22 @@ CodeFits run.Spent = Unit {0}
 CodeFits (run.Wants table key used) = Unit {0}
 
 -- what a run of the call's program on the records given leads to is sayable
-pub run-sayable : (known : Known) (carried : Carried) (ext : ExtValue) (run : Run)
-    → ext_in known.exts carried.call.ext ≡ Some ext
+pub run-sayable : (known : Known) (carried : Carried) (program : Program) (run : Run)
+    → program_in known.programs carried.call.ext ≡ Some program
     → IsU32 carried.call.caller.number → IsU64 carried.call.number.0 → CodeFits run
-    → mean ext.program carried.call.args carried.call.budget (part carried.reads known.rights) ≡ run
+    → mean program carried.call.args carried.call.budget (part carried.reads known.rights) ≡ run
     → IsSayable known (after_run carried run)
-run-sayable known carried ext (run.Wants table key used) given caller number code is =
-    let due = only-readable ext.program carried.call.args carried.call.budget (part carried.reads known.rights)
+run-sayable known carried program (run.Wants table key used) given caller number code is =
+    let due = only-readable program carried.call.args carried.call.budget (part carried.reads known.rights)
     (record { table = table.0; key = key }) (ap wanted_by is) in
     fetching-sayable known carried table key caller number (readable-small known.rights table.0 due.0) due.1
-run-sayable known carried ext (run.Done reply writes used) given caller number code is =
-    ended-sayable known carried ext (outcomes.Done reply) writes given caller number
+run-sayable known carried program (run.Done reply writes used) given caller number code is =
+    ended-sayable known carried program (outcomes.Done reply) writes given caller number
     (λ other bytes same. let e : reply.code ≡ other = (cc) in subst (λ (n : ℕ). IsU64 n) e code)
     (record { answers = ap outcome_of is; leaves = ap changes_of is })
-run-sayable known carried ext (run.Trapped trap used) given caller number code is =
-    ended-sayable known carried ext (outcomes.Trapped trap) [] given caller number (λ other bytes same. absurd (cc))
+run-sayable known carried program (run.Trapped trap used) given caller number code is =
+    ended-sayable known carried program (outcomes.Trapped trap) [] given caller number (λ other bytes same. absurd (cc))
     (record { answers = ap outcome_of is; leaves = ap changes_of is })
-run-sayable known carried ext run.Spent given caller number code is =
-    ended-sayable known carried ext outcomes.Killed [] given caller number (λ other bytes same. absurd (cc))
+run-sayable known carried program run.Spent given caller number code is =
+    ended-sayable known carried program outcomes.Killed [] given caller number (λ other bytes same. absurd (cc))
     (record { answers = ap outcome_of is; leaves = ap changes_of is })

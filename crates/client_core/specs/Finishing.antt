@@ -3,10 +3,10 @@ use Rattle.std.specs.Prelude.{◌≡◌, ◌≢◌, ℕ, List, Some}
 use Rattle.sp_base.specs.declared.numbers.CallNo.{CallNo}
 use Rattle.sp_base.specs.declared.outcomes.Outcome.{Outcome}
 use Rattle.sp_base.specs.declared.writes.Write.{Write}
+use Rattle.ext_mean.specs.declared.tree.Program.{Program}
 use Rattle.ext_mean.specs.Meaning.{mean}
 use Rattle.ext_mean.specs.Outcomes.{EndsWith}
 use Rattle.ext_mean.specs.Views.{part}
-use Rattle.task.specs.Extensions.{ExtValue}
 use Rattle.wire.specs.Requests.{FitsRequest}
 use Rattle.wire.specs.declared.requests.Request.TheVariants.{Finish}
 use Rattle.client_core.specs.declared.answered.CallAnswer.{CallAnswer}
@@ -16,18 +16,18 @@ use Rattle.client_core.specs.declared.stage.Carried.{Carried}
 use Rattle.client_core.specs.declared.stage.Awaited.TheVariants.{TheEnd}
 use Rattle.client_core.specs.declared.stage.Stage.{Stage}
 use Rattle.client_core.specs.declared.stage.Stage.TheVariants.{Idle, Carries}
-use Rattle.client_core.specs.Talking.{Known, Said, ext_in}
+use Rattle.client_core.specs.Talking.{Known, Said, program_in}
 
--- Outcome and writes are what the extension of the call that is carried means with the call's arguments
+-- Outcome and writes are what the program of the call that is carried means with the call's arguments
 -- and whole budget and the rights of Welcome, on the reads given for it, in their order.
 pub record IsMeant (known : Known) (stage : Stage) (caller : ℕ) (number : CallNo) (outcome : Outcome) (writes : List Write) : Type 0 where
   pub carried : Carried
   pub carries : stage ≡ Carries carried TheEnd
   pub caller_is : caller ≡ carried.call.caller.number
   pub number_is : number ≡ carried.call.number
-  pub ext : ExtValue
-  pub given : ext_in known.exts carried.call.ext ≡ Some ext
-  pub ends : EndsWith (mean ext.program carried.call.args carried.call.budget (part carried.reads known.rights)) outcome writes
+  pub program : Program
+  pub given : program_in known.programs carried.call.ext ≡ Some program
+  pub ends : EndsWith (mean program carried.call.args carried.call.budget (part carried.reads known.rights)) outcome writes
 
 -- each end that is sent is meant
 pub record FinishesAsMeant (known : Known) (said : Said) : Type 0 where

@@ -7,7 +7,6 @@ use Rattle.sp_base.specs.declared.reads.ReadItem.{ReadItem}
 use Rattle.ext_mean.specs.declared.refusal.Refusal.{Refusal}
 use Rattle.ext_mean.specs.declared.tree.Program.{Program}
 use Rattle.ext_check.specs.Checking.{IsAccepted, IsRefused}
-use Rattle.task.specs.Extensions.{ExtValue, IsExtension}
 use Rattle.wire.specs.declared.answers.Answer.{Answer}
 use Rattle.wire.specs.declared.answers.Answer.TheVariants.{Answers, Fetched, Finished, Text}
 use Rattle.wire.specs.declared.answers.FetchAnswer.{FetchAnswer}
@@ -22,7 +21,7 @@ use Rattle.client_core.specs.declared.stage.Awaited.TheVariants.{TheText, TheRec
 use Rattle.client_core.specs.declared.stage.Carried.{Carried}
 use Rattle.client_core.specs.declared.stage.Stage.{Stage}
 use Rattle.client_core.specs.declared.stage.Stage.TheVariants.{Idle, Asked, Carries, Over}
-use Rattle.client_core.specs.Talking.{CoreValue, Known, Said, are_in_turn, carries, ends, fault, pushed_reads, running, starts}
+use Rattle.client_core.specs.Talking.{CoreValue, Known, Said, are_in_turn, carries, ends, fault, knowing, pushed_reads, running, starts}
 
 -- the answer to a batch: one item for each call, in turn
 abbrev pub answers_heard : Known → List Call → Answer → Said
@@ -60,18 +59,13 @@ pub record Leads (known : Known) (expected said : Said) (after : Known) : Type 0
   pub says : said ≡ expected
   pub knows : after ≡ known
 
--- what is known with one extension more
-abbrev pub knowing : Known → Call → ExtValue → Known
-knowing known call ext = record known { exts = (call.ext, ext) ∷ known.exts }
-
--- a text that is accepted is kept as an extension, of the one program as which it is accepted, and the
--- call starts
+-- a text that is accepted is kept as the one program as which it is accepted, and the call starts
 pub record TakesText (known : Known) (carried : Carried) (text : List ℕ) (said : Said) (after : Known) : Type 0 where
-  pub ext : ExtValue
-  pub is : IsExtension text ext
-  pub only : (program : Program) → IsAccepted text program → ext.program ≡ program
-  pub says : said ≡ running known.rights carried ext
-  pub knows : after ≡ knowing known carried.call ext
+  pub program : Program
+  pub accepted : IsAccepted text program
+  pub only : (other : Program) → IsAccepted text other → program ≡ other
+  pub says : said ≡ running known.rights carried program
+  pub knows : after ≡ knowing known carried.call.ext program
 
 -- a text that is refused is the peer's fault
 pub record RefusesText (known : Known) (text : List ℕ) (said : Said) (after : Known) : Type 0 where

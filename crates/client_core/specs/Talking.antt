@@ -14,10 +14,10 @@ use Rattle.sp_base.specs.declared.rights.Level.{Level}
 use Rattle.sp_base.specs.declared.writes.Write.{Write}
 use Rattle.ext_mean.specs.declared.run.Run.{Run}
 use Rattle.ext_mean.specs.declared.run.Run.TheVariants as run
+use Rattle.ext_mean.specs.declared.tree.Program.{Program}
 use Rattle.ext_mean.specs.Meaning.{mean}
 use Rattle.ext_mean.specs.Views.{part, place_of}
 use Rattle.parked.specs.Taking.{stands_twice}
-use Rattle.task.specs.Extensions.{ExtValue}
 use Rattle.wire.specs.declared.items.Item.{Item}
 use Rattle.wire.specs.declared.items.Item.TheVariants as item
 use Rattle.wire.specs.declared.requests.Request.TheVariants.{Fetch, Finish, TextOf}
@@ -29,11 +29,15 @@ use Rattle.client_core.specs.declared.stage.Carried.{Carried}
 use Rattle.client_core.specs.declared.stage.Stage.{Stage}
 use Rattle.client_core.specs.declared.stage.Stage.TheVariants.{Idle, Carries, Over}
 
--- what a client knows: the rights of its Welcome, and the extensions whose texts it was given, with their
--- numbers, the newest first
+-- what a client knows: the rights of its Welcome, and the programs of the extensions that it was given,
+-- with their numbers, the newest first
 pub record Known : Type 0 where
   pub rights : List (TableId × Level)
-  pub exts : List (ExtNo × ExtValue)
+  pub programs : List (ExtNo × Program)
+
+-- what is known with one extension more
+abbrev pub knowing : Known → ExtNo → Program → Known
+knowing known number program = record known { programs = (number, program) ∷ known.programs }
 
 -- what contracts see of a client: its tenant, what it knows, and where its talk stands
 pub record CoreValue : Type 0 where
@@ -56,10 +60,10 @@ asked_of call = record {
   args = call.args;
 }
 
--- the extension with this number, where its text was given
-abbrev pub ext_in : List (ExtNo × ExtValue) → ExtNo → Option ExtValue
-ext_in [] number = None
-ext_in (ext ∷ exts) number = if ext.0.0 == number.0 then Some ext.1 else ext_in exts number
+-- the program of the extension with this number, where it was given
+abbrev pub program_in : List (ExtNo × Program) → ExtNo → Option Program
+program_in [] number = None
+program_in (known ∷ programs) number = if known.0.0 == number.0 then Some known.1 else program_in programs number
 
 -- the peer is at fault, and the client takes no more calls
 abbrev pub fault : Said
@@ -80,17 +84,17 @@ after_run carried run.Spent = finishing carried outcome.Killed []
 
 -- The call runs from its arguments, with its whole budget and the rights of Welcome, on all the reads
 -- that were given for it.
-abbrev pub running : List (TableId × Level) → Carried → ExtValue → Said
-running rights carried ext =
-    after_run carried (mean ext.program carried.call.args carried.call.budget (part carried.reads rights))
+abbrev pub running : List (TableId × Level) → Carried → Program → Said
+running rights carried program =
+    after_run carried (mean program carried.call.args carried.call.budget (part carried.reads rights))
 
--- it runs where the text of its extension was given, else that text is asked for
-abbrev pub starts_with : Known → Carried → Option ExtValue → Said
-starts_with known carried (Some ext) = running known.rights carried ext
+-- it runs where its extension was given, else the text of that is asked for
+abbrev pub starts_with : Known → Carried → Option Program → Said
+starts_with known carried (Some program) = running known.rights carried program
 starts_with known carried None = (Send (TextOf carried.call.ext), Carries carried TheText)
 
 abbrev pub starts : Known → Carried → Said
-starts known carried = starts_with known carried (ext_in known.exts carried.call.ext)
+starts known carried = starts_with known carried (program_in known.programs carried.call.ext)
 
 -- the reads of a pushed call
 abbrev pub pushed_reads : Item → Option (List ReadItem)

@@ -1,21 +1,24 @@
 ghost use Rattle.std.specs.Prelude.{◌≡◌, ◌≢◌, ◌≤◌, [], IfOk, OnOk, OnErr, length, map};
+ghost use Rattle.std.specs.Arc.{arc_value};
 ghost use Rattle.std.specs.List.{AllByRecursion};
 ghost use Rattle.sp_base.specs.Limits.{IsArguments};
 ghost use Rattle.sp_base.specs.declared.calls.Call.{Call};
 ghost use Rattle.wire.specs.Requests.{FitsRequest};
 ghost use Rattle.client_core.specs.Finishing.{FinishesAsMeant, FitsNext, RestsAnswered};
 ghost use Rattle.client_core.specs.Hearing.{Hears};
-ghost use Rattle.client_core.specs.Talking.{asked_of};
+ghost use Rattle.client_core.specs.Talking.{asked_of, knowing};
 
 use crate::asking::all_asked;
 use crate::known::{Known, Said};
 use crate::later::CallList;
 use crate::next::Next;
 use crate::stage::Stage;
-use sp_base::{Call, Memory, Rights, TenantId};
+use ext_mean::Program;
+use sp_base::{Call, ExtNo, Memory, Rights, TenantId};
 use std::alloc::Global;
 use std::marker::Model;
 use std::mem;
+use std::sync::Arc;
 use wire::{Answer, Request};
 
 /// The client of one tenant, over one link that it does not hold. A call that is pushed back to it
@@ -44,7 +47,7 @@ impl Model for ClientCore {
 impl ClientCore {
     /// A client with the rights of its Welcome, which has nothing under way.
     pub fn new(alloc: Global, tenant: TenantId, rights: Rights) -> ClientCore
-        ensures { result ≡ record { tenant = tenant; known = record { rights = rights; exts = [] }; stage = Stage.Idle } }
+        ensures { result ≡ record { tenant = tenant; known = record { rights = rights; programs = [] }; stage = Stage.Idle } }
     {
         ClientCore {
             alloc,
@@ -52,6 +55,15 @@ impl ClientCore {
             known: Known::new(alloc, rights),
             stage: Stage::Idle,
         }
+    }
+
+    /// The client is told the program of an extension, and need not ask for the text of it. Without
+    /// memory nothing changes.
+    pub fn know(&mut self, number: ExtNo, program: Arc<Program>) -> Result<(), Memory>
+        ensures ok { OnOk result (self.new ≡ record self.old { known = knowing self.old.known number (arc_value program) }) }
+        ensures err { OnErr result (self.new ≡ self.old) }
+    {
+        self.known.know(number, program)
     }
 
     /// The request that asks these calls. Without memory nothing changes.

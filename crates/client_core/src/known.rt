@@ -1,33 +1,35 @@
 //! How a client carries a pushed call: what it makes of each answer, by what it knows.
 
-ghost use Rattle.std.specs.Prelude.{◌≡◌, ◌++◌, ◌∷◌, [], Some, IfOk};
+ghost use Rattle.std.specs.Prelude.{◌≡◌, ◌++◌, ◌∷◌, [], Some, IfOk, OnErr, OnOk};
+ghost use Rattle.std.specs.Arc.{arc_value};
 ghost use Rattle.client_core.specs.Finishing.{IsSayable};
 ghost use Rattle.client_core.specs.Hearing.{HearsFor, HearsGiven, HearsText, Leads, answers_heard, end_heard, ended_heard, fetch_heard, record_heard};
-ghost use Rattle.client_core.specs.Talking.{Known as KnownValue, after_run, carries, ends, ext_in, fault, finishing, pushed_reads, running, starts};
+ghost use Rattle.client_core.specs.Talking.{Known as KnownValue, after_run, carries, ends, fault, finishing, knowing, program_in, pushed_reads, running, starts};
 
 use crate::answered::{CallAnswer, CallAnswers};
-use crate::exts::Exts;
 use crate::later::{CallList, Later};
 use crate::next::Next;
+use crate::programs::Programs;
 use crate::stage::{Awaited, Carried, Stage};
 use crate::turns::{are_in_turn, pushed};
+use ext_check::{CheckFault, check_text};
 use ext_eval::eval;
-use ext_mean::Run;
-use sp_base::{Blob, Key, Memory, Outcome, ReadItem, Rights, TableId, Writes};
+use ext_mean::{Program, Run};
+use sp_base::{Blob, ExtNo, Key, Memory, Outcome, ReadItem, Rights, TableId, Writes};
 use std::alloc::Global;
 use std::marker::Model;
-use task::{Ext, ExtFault};
+use std::sync::Arc;
 use wire::{Answer, FetchAnswer, Item, Request, TextAnswer};
 
 /// What is said next, with where the talk then stands.
 pub type Said = (Next, Stage);
 
-/// What a client knows: its rights, and the extensions whose texts it was given.
+/// What a client knows: its rights, and the programs of the extensions that it was given.
 #[derive(Drop)]
 pub struct Known {
     alloc: Global,
     rights: Rights,
-    exts: Exts,
+    programs: Programs,
 }
 
 impl Model for Known {
@@ -39,7 +41,7 @@ impl Model for Known {
 
     ghost coded = { Prim.hlevel (codes, block.the_row.coded) };
 
-    ghost view = { λ k. record { rights = k.rights; exts = k.exts } };
+    ghost view = { λ k. record { rights = k.rights; programs = k.programs } };
 }
 
 /// The peer is at fault.
@@ -84,32 +86,33 @@ fn fetching(alloc: Global, carried: Carried, table: TableId, key: Key) -> Result
 impl Known {
     /// The rights of a Welcome, and no extensions.
     pub fn new(alloc: Global, rights: Rights) -> Known
-        ensures { result ≡ record { rights = rights; exts = [] } }
+        ensures { result ≡ record { rights = rights; programs = [] } }
     {
         Known {
             alloc,
             rights,
-            exts: Exts::new(alloc),
+            programs: Programs::new(alloc),
         }
     }
 
+    /// Keeps the program of an extension with its number. Without memory nothing changes.
+    pub fn know(&mut self, number: ExtNo, program: Arc<Program>) -> Result<(), Memory>
+        ensures ok { OnOk result (self.new ≡ knowing self.old number (arc_value program)) }
+        ensures err { OnErr result (self.new ≡ self.old) }
+    {
+        self.programs.add(number, program)
+    }
+
     /// Runs a call from its arguments, with its whole budget, on the records that were given for it.
-    fn run(&self, carried: Carried, ext: &Ext) -> Result<Said, Memory>
-        requires { ext_in self.now.exts carried.call.ext ≡ Some ext.now }
-        ensures says { IfOk result (λ said. said ≡ running self.now.rights carried ext.now) }
+    fn run(&self, carried: Carried, program: &Program) -> Result<Said, Memory>
+        requires { program_in self.now.programs carried.call.ext ≡ Some program.now }
+        ensures says { IfOk result (λ said. said ≡ running self.now.rights carried program.now) }
         ensures sayable { IfOk result (λ said. IsSayable self.now said) }
     {
         let call = &carried.call;
         let args = call.args.bytes();
         let reads = carried.reads.as_slice();
-        match eval(
-            self.alloc,
-            ext.program(),
-            args,
-            call.budget,
-            &self.rights,
-            reads,
-        )? {
+        match eval(self.alloc, program, args, call.budget, &self.rights, reads)? {
             Run::Wants { table, key, .. } => fetching(self.alloc, carried, table, key),
             Run::Done { reply, writes, .. } => Ok(finishing(carried, Outcome::Done(reply), writes)),
             Run::Trapped { trap, .. } => {
@@ -120,14 +123,14 @@ impl Known {
         }
     }
 
-    /// Runs a call where the text of its extension was given, else asks for that text.
+    /// Runs a call where its extension was given, else asks for the text of it.
     fn start(&self, carried: Carried) -> Result<Said, Memory>
         ensures says { IfOk result (λ said. said ≡ starts self.now carried) }
         ensures sayable { IfOk result (λ said. IsSayable self.now said) }
     {
         let ext = carried.call.ext;
-        match self.exts.get(ext) {
-            Some(known) => self.run(carried, known),
+        match self.programs.get(ext) {
+            Some(given) => self.run(carried, given.program()),
             None => {
                 let awaited = Awaited::TheText;
                 Ok((
@@ -219,18 +222,19 @@ impl Known {
         }
     }
 
-    /// Keeps the extension of a text that was asked for, and runs its call.
+    /// Keeps the program of a text that was asked for, and runs its call.
     fn take_text(&mut self, carried: Carried, text: &Blob) -> Result<Said, Memory>
         ensures hears { IfOk result (λ said. HearsGiven self.old carried (TextAnswer.Text text.now) said self.new) }
         ensures sayable { IfOk result (λ said. IsSayable self.new said) }
     {
-        match Ext::make(self.alloc, text.bytes()) {
-            Ok(ext) => {
-                self.exts.add(carried.call.ext, ext)?;
+        match check_text(self.alloc, text.bytes()) {
+            Ok(program) => {
+                let program = Arc::new(self.alloc, program)?;
+                self.know(carried.call.ext, program)?;
                 self.start(carried)
             }
-            Err(ExtFault::Rejected { .. }) => Ok(fault()),
-            Err(ExtFault::Memory) => Err(Memory),
+            Err(CheckFault::Refused { .. }) => Ok(fault()),
+            Err(CheckFault::Memory) => Err(Memory),
         }
     }
 

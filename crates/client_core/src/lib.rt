@@ -5,10 +5,10 @@
 mod answered;
 mod asking;
 mod client;
-mod exts;
 mod known;
 mod later;
 mod next;
+mod programs;
 mod stage;
 mod turns;
 

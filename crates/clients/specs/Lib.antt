@@ -1,4 +1,6 @@
 pub mod First
 pub mod Numbering
 pub mod Pushed
+pub mod Client
+pub mod Plain
 pub mod Placing

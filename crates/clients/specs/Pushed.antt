@@ -16,8 +16,6 @@ use Rattle.journal.specs.Folds.{same_caller}
 use Rattle.rw_set.specs.declared.sent.Sent.{Sent}
 use Rattle.task.specs.Extensions.{ExtValue}
 use Rattle.task.specs.Turning.{Live}
-use Rattle.clients.specs.declared.pushed_call.Asks.{Asks}
-use Rattle.clients.specs.declared.pushed_call.Asks.TheVariants.{Fetch, Finish}
 
 -- A call at its client: its extension, the rights with which it runs, and the reads that it was given.
 pub record Pushed : Type 0 where
@@ -54,11 +52,6 @@ pub record IsCarried (pushed : Pushed) : Type 0 where
   pub arguments : IsArguments pushed.call.args
   pub asked : AreAsked pushed.ext.program pushed.call.args pushed.call.budget pushed.rights pushed.reads
   pub paid : 16 * length pushed.reads ≤ pushed.call.budget
-
--- what a client asks for, by what the program means
-abbrev pub IsAskedBy : Run → Asks → Type 0
-IsAskedBy run (Fetch table key) = WantsAt run table key
-IsAskedBy run (Finish outcome writes) = EndsWith run outcome writes
 
 -- What a client sends as the end of its call: what the program means on the reads that it was given, with
 -- arguments within their limits and with the reads that the program asks for.

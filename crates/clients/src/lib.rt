@@ -2,9 +2,12 @@
 #![tactic(auto)]
 
 mod callers;
+mod copies;
+mod plain;
 mod pushed_call;
 mod pushed_calls;
 
 pub use callers::Callers;
+pub use plain::PlainPushedCall;
 pub use pushed_call::PushedCall;
 pub use pushed_calls::PushedCalls;

@@ -1,48 +1,46 @@
-ghost use Rattle.std.specs.Prelude.{◌≡◌, IfOk, MatchOption};
+ghost use Rattle.std.specs.Prelude.{◌≡◌, [], ◌∷◌, IfOk, OnOk, MatchOption};
+ghost use Rattle.sp_base.specs.Limits.{IsArguments};
 ghost use Rattle.sp_base.specs.Spelling.{FitsOpt};
-ghost use Rattle.clients.specs.Pushed.{HasEnd, IsAskedBy, IsCarried, IsTrueEnd, IsWanted, Pushed, WantsAt, joined, meant, pushed_of};
+ghost use Rattle.rw_set.specs.ReadLists.{IsReadList};
+ghost use Rattle.clients.specs.Client.{RunsBehind, asking, at_client};
+ghost use Rattle.clients.specs.Pushed.{HasEnd, IsCarried, IsTrueEnd, IsWanted, WantsAt, joined, meant, pushed_of};
 
-use ext_eval::eval;
-use ext_mean::Run;
-use rw_set::Sent;
-use sp_base::{Call, Key, Memory, Outcome, ReadItem, Rights, TableId, Writes};
+use crate::copies::{allowed_call, share_reads, share_value};
+use client_core::{ClientCore, Next};
+use rw_set::{ReadSet, Sent};
+use sp_base::{Call, Key, Memory, ReadItem, Rights, TableId};
 use std::alloc::Global;
 use std::marker::Model;
-use task::{Parked, Task};
-
-/// What a client asks for next.
-#[derive(Debug, Drop)]
-pub enum Asks {
-    /// A record that it lacks.
-    Fetch { table: TableId, key: Key },
-    /// The end of the call.
-    Finish { outcome: Outcome, writes: Writes },
-}
+use task::{Ext, Parked, Task};
+use wire::{Answer, FetchAnswer, Item, Items, Request};
 
 /// A call at its client, which began again there with what the call had read and with its whole budget.
 /// Contracts see the call, its extension, its rights and its reads.
 #[derive(Drop)]
 pub struct PushedCall {
     alloc: Global,
+    /// What is kept of the call in the server.
     parked: Parked,
-    rights: Rights,
-    asks: Asks,
+    /// The client, which carries the call.
+    client: ClientCore,
+    /// What the client sent last: a Fetch of a record that it lacks, or the Finish of the call.
+    sent: Request,
 }
 
 impl Model for PushedCall {
     ghost use Rattle.std.specs.Coded.{codes};
     ghost use Rattle.ext_mean.specs.contracts.statement.Block as block;
-    ghost use Rattle.clients.specs.Pushed.{IsAskedBy, IsCarried, Pushed, meant};
+    ghost use Rattle.clients.specs.Client.{IsCarriedBy, at_client};
+    ghost use Rattle.clients.specs.Pushed.{IsCarried, Pushed};
 
     ghost Value = { Pushed };
 
     ghost coded = { Prim.hlevel (codes, block.the_row.coded) };
 
-    ghost view = { λ p. record { call = p.parked.call; ext = p.parked.ext; rights = p.rights; reads = p.parked.reads } };
+    ghost view = { λ p. at_client p.parked p.client };
 
     ghost invariant = { λ p.
-        IsCarried (record { call = p.parked.call; ext = p.parked.ext; rights = p.rights; reads = p.parked.reads })
-        × IsAskedBy (meant (record { call = p.parked.call; ext = p.parked.ext; rights = p.rights; reads = p.parked.reads })) p.asks };
+        IsCarried (at_client p.parked p.client) × IsCarriedBy p.client (at_client p.parked p.client) p.sent };
 }
 
 impl PushedCall {
@@ -51,33 +49,35 @@ impl PushedCall {
         requires { rights ≡ task.rights }
         ensures { IfOk result (λ call. call ≡ pushed_of task) }
     {
-        let _kept = task.spent();
-        PushedCall::asking(alloc, Parked::of(task), rights)
+        let spent = task.spent();
+        let parked = Parked::of(task);
+        let call = allowed_call(alloc, parked.call())?;
+        let client = asking(alloc, call, parked.ext(), rights)?;
+        let answer = pushed(alloc, spent, parked.reads())?;
+        PushedCall::heard(alloc, parked, client, answer)
     }
 
-    /// The client asks for what it lacks.
-    fn asking(alloc: Global, parked: Parked, rights: Rights) -> Result<PushedCall, Memory>
-        requires { let made : Pushed = record { call = parked.call; ext = parked.ext; rights = rights; reads = parked.reads } in IsCarried made }
-        ensures { IfOk result (λ call. call ≡ record { call = parked.call; ext = parked.ext; rights = rights; reads = parked.reads }) }
+    /// The client hears an answer, and sends what the call then leads to.
+    fn heard(
+        alloc: Global,
+        parked: Parked,
+        mut client: ClientCore,
+        answer: Answer,
+    ) -> Result<PushedCall, Memory>
+        requires carried { IsCarried (at_client parked client) }
+        requires runs { RunsBehind client answer (at_client parked client) }
+        ensures { IfOk result (λ call. call ≡ at_client parked client) }
     {
-        let program = parked.ext().program();
-        let call = parked.call();
-        let reads = parked.reads().items();
-        let run = eval(
-            alloc,
-            program,
-            call.args.bytes(),
-            call.budget,
-            &rights,
-            reads,
-        )?;
-        let asks = asks_of(alloc, run);
-        Ok(PushedCall {
-            alloc,
-            parked,
-            rights,
-            asks,
-        })
+        match client.on_answer(answer) {
+            Next::Send(sent) => Ok(PushedCall {
+                alloc,
+                parked,
+                client,
+                sent,
+            }),
+            Next::Memory => Err(Memory),
+            Next::Answered(_) | Next::PeerFault => unreachable!(),
+        }
     }
 
     pub fn call(&self) -> &Call
@@ -91,9 +91,9 @@ impl PushedCall {
         ensures place { MatchOption result (HasEnd (meant self.now)) (λ place. IsWanted self.now place.0 place.1.now) }
         ensures carried { IsCarried self.now }
     {
-        match &self.asks {
-            Asks::Fetch { table, key } => Some((*table, key)),
-            Asks::Finish { .. } => None,
+        match &self.sent {
+            Request::Fetch { table, key, .. } => Some((*table, key)),
+            _ => None,
         }
     }
 
@@ -106,11 +106,16 @@ impl PushedCall {
         let PushedCall {
             alloc,
             mut parked,
-            rights,
+            client,
             ..
         } = self;
+        let found = FetchAnswer::Found {
+            version: item.version,
+            read_at: item.read_at,
+            value: share_value(alloc, &item.value)?,
+        };
         match parked.add(item) {
-            Ok(()) => PushedCall::asking(alloc, parked, rights),
+            Ok(()) => PushedCall::heard(alloc, parked, client, Answer::Fetched(found)),
             Err(_) => Err(Memory),
         }
     }
@@ -120,37 +125,46 @@ impl PushedCall {
         requires { HasEnd (meant self) }
         ensures { IsTrueEnd self result }
     {
-        let PushedCall { parked, asks, .. } = self;
+        let PushedCall { parked, sent, .. } = self;
         let (call, reads) = parked.parts();
-        match asks {
-            Asks::Finish { outcome, writes } => Sent {
+        match sent {
+            Request::Finish {
+                outcome,
+                writes,
+                ..
+            } => Sent {
                 call,
                 reads,
                 outcome,
                 writes,
             },
-            Asks::Fetch { .. } => unreachable!(),
+            _ => unreachable!(),
         }
     }
 }
 
-/// What a client asks for, by what its program means.
-fn asks_of(alloc: Global, run: Run) -> Asks
-    ensures { IsAskedBy run result }
+/// The client of a call, which has asked it, and need not ask for the text of its extension.
+fn asking(alloc: Global, call: Call, ext: &Ext, rights: Rights) -> Result<ClientCore, Memory>
+    requires { IsArguments call.args }
+    ensures { IfOk result (λ client. client ≡ asking call ext.now.program rights) }
 {
-    match run {
-        Run::Wants { table, key, .. } => Asks::Fetch { table, key },
-        Run::Done { reply, writes, .. } => Asks::Finish {
-            outcome: Outcome::Done(reply),
-            writes,
-        },
-        Run::Trapped { trap, .. } => Asks::Finish {
-            outcome: Outcome::Trapped(trap),
-            writes: Writes::new(alloc),
-        },
-        Run::Spent => Asks::Finish {
-            outcome: Outcome::Killed,
-            writes: Writes::new(alloc),
-        },
-    }
+    let mut client = ClientCore::new(alloc, call.caller.tenant, rights);
+    client.know(call.ext, ext.program_shared()?)?;
+    let calls = vec![in alloc; call]?;
+    let _asked = client.batch(calls)?;
+    Ok(client)
+}
+
+/// The answer that the one call of a batch was pushed, with these reads. Its client looks at no load.
+fn pushed(alloc: Global, spent: u32, reads: &ReadSet) -> Result<Answer, Memory>
+    ensures answer { IfOk result (λ answer. answer ≡ Answer.Answers (Item.Pushed 0 spent reads.now ∷ [])) }
+    ensures kept { OnOk result (IsReadList reads.now) }
+{
+    let load = 0;
+    let reads = share_reads(alloc, reads.items())?;
+    let item = Item::Pushed { load, spent, reads };
+    let items = vec![in alloc; item]?;
+    Ok(Answer::Answers {
+        items: Items::from_vec(items),
+    })
 }

@@ -1,6 +1,6 @@
 -- Bodies are answered one after another, over a journal that grows.
 use Rattle.std.specs.Prelude.{true, false}
-use Rattle.std.proofs.Common.{◌≡◌, ℕ, List, [], ◌∷◌, ◌++◌, Option, Some, None, refl, sym, subst, ap, ◌∙◌, append_assoc, append-nil}
+use Rattle.std.proofs.Common.{◌≡◌, ℕ, List, [], ◌∷◌, ◌++◌, length, Option, Some, None, refl, sym, subst, ap, ◌∙◌, append_assoc, append-nil}
 use Rattle.sp_base.specs.Spelling.{frame}
 use Rattle.records.specs.GrantsList.{GrantsList}
 use Rattle.journal.specs.declared.entry.Entry.{Entry}
@@ -15,6 +15,8 @@ use Rattle.drive.specs.declared.driving.Reply.{Reply}
 use Rattle.drive.specs.declared.driving.Reply.TheVariants as reply
 use Rattle.drive.specs.Hearing as hearing
 use Rattle.drive.specs.Hearing.{Answered, Ends, GoesOn, Hears, IsAnswered, IsReadyAfter, MayBeDriven, Replies, frame_of, frames_of, is_last}
+use Rattle.drive.specs.Joining.{AreShown}
+use Rattle.drive.proofs.Joining.{none-shown, shown-then}
 use Rattle.drive.proofs.Replying.{answered-longer, frames-more}
 
 -- the terms of a session over a book do not change
@@ -35,6 +37,7 @@ hears-nothing session book journal said stands = record {
     last = state;
     heard = hearing.nothing_heard;
     said = sym (append-nil said);
+    shown = none-shown journal [] [] refl;
     stands = was;
   };
 }
@@ -78,6 +81,7 @@ hears-more old now new before between after journal bodies body given said_first
             heard = hearing.one_more bodies so_far.answers so_far.last body given made.0
                 (answered-then (terms_over old before) journal hears.later one.later state bodies so_far.answers so_far.last so_far.heard) answered on;
             said = said-more said_first said_now said_then so_far.answers given so_far.said more;
+            shown = shown-then journal hears.later one.later so_far.answers (given ∷ []) so_far.shown one.shown;
             stands = made.2;
           };
     }
@@ -117,6 +121,7 @@ hears-last old now new before between after journal front behind whole_list body
               ends = ended;
             };
             said = said-more said_first said_now said_then so_far.answers given so_far.said more;
+            shown = shown-then journal hears.later one.later so_far.answers (given ∷ []) so_far.shown one.shown;
             stands = made.2;
           };
     }
@@ -155,6 +160,8 @@ hears-bye old now new before between after journal front behind whole_list body 
               ends = ended;
             };
             said = so_far.said;
+            shown = subst (λ (answers : List Answer). AreShown (length journal) (journal ++ (hears.later ++ one.later)) answers) (append-nil so_far.answers)
+                (shown-then journal hears.later one.later so_far.answers [] so_far.shown one.shown);
             stands = made.2;
           };
     }

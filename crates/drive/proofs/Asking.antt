@@ -35,10 +35,12 @@ use Rattle.drive.specs.declared.driving.Reply.{Reply}
 use Rattle.drive.specs.declared.driving.Reply.TheVariants as reply
 use Rattle.drive.specs.Batches.{HaveBegun, IsBatchAnswered}
 use Rattle.drive.specs.Hearing as hearing
-use Rattle.drive.specs.Hearing.{GoesOn, IsReadyAfter, IsReplyWithin, MayBeDriven, NoRequest, Replies, RepliesFrom, reply_of}
+use Rattle.drive.specs.Hearing.{GoesOn, IsReadyAfter, IsReplyWithin, MayBeDriven, NoRequest, Replies, RepliesFrom, answers_of, reply_of}
+use Rattle.drive.specs.Joining.{AreShown}
 use Rattle.drive.specs.Running.{StandsOn}
 use Rattle.drive.proofs.Answering.{terms-same}
-use Rattle.drive.proofs.Replying.{fits-each, reply-leads, reply-ready, reply-within, spelled-message}
+use Rattle.drive.proofs.Joining.{adds-shown, none-shown, shown-then}
+use Rattle.drive.proofs.Replying.{answers-reply, fits-each, reply-leads, reply-ready, reply-within, spelled-message}
 use Rattle.drive.proofs.Ways.{one-journal}
 
 -- ---- A request that was refused
@@ -51,6 +53,7 @@ refused-replies old new book journal body message given made is may stands spell
     record {
       later = [];
       stands = whole;
+      shown = none-shown journal [] (answers_of made) refl;
       from_each = λ state was.
           subst (λ (r : Reply). RepliesFrom (terms_over old book) (journal ++ []) state body new r) (sym is)
           (reply-leads (terms_over old book) (journal ++ []) state body message given new spelled
@@ -106,6 +109,7 @@ pub sent-replies : (old new : Session) (before after : BookValue) (journal : Lis
 sent-replies old new before after journal body message given spelled planned = record {
   later = planned.later;
   stands = planned.stands;
+  shown = adds-shown journal planned.later given planned.adds;
   from_each = λ state was.
       let leads = planned.does.0.explained state was in
       (leads.next, spelled-message (terms_over old before) (journal ++ planned.later) state body message given leads.next spelled leads.step, leads.stands);
@@ -129,6 +133,7 @@ pub stopped-replies : (old new : Session) (before after : BookValue) (journal : 
 stopped-replies old new before after journal body message (Some given) spelled planned = record {
   later = planned.later;
   stands = planned.stands;
+  shown = none-shown journal planned.later (given ∷ []) planned.adds;
   from_each = λ state was.
       let leads = planned.does.0.explained state was in (
         leads.next,
@@ -141,6 +146,7 @@ stopped-replies old new before after journal body message (Some given) spelled p
 stopped-replies old new before after journal body message None spelled planned = record {
   later = planned.later;
   stands = planned.stands;
+  shown = none-shown journal planned.later [] planned.adds;
   from_each = λ state was.
       let bye = planned.does.bye in (
         state,
@@ -178,6 +184,8 @@ runs-begun old new before after journal message begun_calls fixed planned other 
       calls = runs.calls;
       awaits = subst (λ (t : Terms). Awaits new t here runs.calls) (sym own) runs.awaits;
       each = subst (λ (g : GrantsList). AllByRecursion (HasBegun new g here runs.calls) begun_calls.items) (sym fixed.grants) runs.each;
+      places = runs.places;
+      waiting = runs.waiting;
     } in
     subst (λ (j : List Entry). HaveBegun new after j begun_calls.items) (one-journal after here other planned.stands others) begun
 
@@ -185,6 +193,7 @@ runs-begun old new before after journal message begun_calls fixed planned other 
 pub record IsFinished (old new : Session) (before after : BookValue) (journal : List Entry) (message : Request) (given : Answer) : Type 0 where
   pub later : List Entry
   pub stands : StandsFor after (journal ++ later)
+  pub shown : AreShown (length journal) (journal ++ later) (given ∷ [])
   pub explained : standing.Explains (terms_over old before) (journal ++ later) (Stands old) new message given
   pub ends : EndsBy given new
   pub within : IsWithin given
@@ -206,6 +215,7 @@ batch-finished old mid new before between after journal message begun_calls give
     record {
       later = planned.later ++ done.later;
       stands = subst (StandsFor after) whole done.stands;
+      shown = shown-then journal planned.later done.later [] (given ∷ []) (none-shown journal planned.later [] planned.adds) done.shown;
       explained = λ state was.
           subst (λ (m : Request). standing.Leads (terms_over old before) (journal ++ (planned.later ++ done.later)) state new m given) (sym runs.batch)
           (subst (λ (j : List Entry). standing.Leads (terms_over old before) j state new (request.Batch runs.calls) given) whole
@@ -223,6 +233,8 @@ pub finished-replies : (old new : Session) (before after : BookValue) (journal :
 finished-replies old new before after journal body message given made is spelled finished = record {
   later = finished.later;
   stands = finished.stands;
+  shown = subst (λ (answers : List Answer). AreShown (length journal) (journal ++ finished.later) answers)
+      (sym (ap answers_of is ∙ answers-reply given)) finished.shown;
   from_each = λ state was.
       subst (λ (r : Reply). RepliesFrom (terms_over old before) (journal ++ finished.later) state body new r) (sym is)
       (reply-leads (terms_over old before) (journal ++ finished.later) state body message given new spelled (finished.explained state was));
@@ -262,6 +274,7 @@ pub unheard-replies : (old new : Session) (book : BookValue) (journal : List Ent
 unheard-replies old new book journal body stands none still = record {
   later = [];
   stands = subst (StandsFor book) (sym (append-nil journal)) stands;
+  shown = none-shown journal [] (faulted fault.BadFrame ∷ []) refl;
   from_each = λ state was. (state, hearing.by_no_request none, still state was);
 }
 

@@ -2,6 +2,7 @@
 use Rattle.std.specs.Prelude.{slice_get}
 use Rattle.std.specs.List.{AllByRecursion}
 use Rattle.std.proofs.Common.{◌≡◌, ◌≤◌, ◌<◌, ◌+◌, ℕ, zero, suc, List, [], ◌∷◌, ◌++◌, length, take, Some, refl, sym, subst, ap, ◌∙◌, arith, length-append}
+use Rattle.std.proofs.lemmas.Option.{slice_get_within}
 use Rattle.sp_base.specs.declared.calls.Asked.{Asked}
 use Rattle.sp_base.specs.declared.calls.Call.{Call}
 use Rattle.sp_base.specs.declared.calls.Policy.{Policy}
@@ -20,9 +21,11 @@ use Rattle.book.specs.Standing.{BookValue, StandsFor}
 use Rattle.session.specs.declared.plan.Begun.{Begun}
 use Rattle.session.specs.declared.session.Session.{Session}
 use Rattle.session.specs.Batches.{CanBegin, call_of}
-use Rattle.session.specs.Standing.{EndHolds, HasBegun, handed_back, is_handed_back, terms_over}
+use Rattle.session.specs.Standing.{EndHolds, HasBegun, terms_over}
 use Rattle.session.proofs.LongerSteps.{can-begin-longer}
-use Rattle.drive.specs.Running.{IsEndOf, IsFresh, Ran, StaysHere}
+use Rattle.session.specs.Waiting.{PlacesRise}
+use Rattle.drive.specs.Batches.{HaveBegun}
+use Rattle.drive.specs.Running.{IsEndOf, IsFresh, Ran}
 
 -- ---- From an earlier moment on
 
@@ -91,7 +94,7 @@ begun-fresh session grants journal calls one has = record {
   unread = ap (λ (l : Live). l.reads) has.task_is;
   ran = subst (λ (l : Live). Ran grants journal l) (sym has.task_is) (record {
     held = tt;
-    named = record { text = has.ext.text; found = has.named.found; spelled = has.named.accepted.spelled };
+    named = has.named;
     own = refl;
   });
 }
@@ -106,7 +109,7 @@ all-fresh-begun session grants journal calls (one ∷ begun_calls) has =
 
 end-of-begun : (session : Session) (book : BookValue) (journal later : List Entry) (calls : List Asked) (begun_calls : List Begun) (one : CallEnd)
     → session.seen ≤ length journal → AllByRecursion (HasBegun session book.grants journal calls) begun_calls
-    → IsEndOf book.grants book.limit (journal ++ later) (length journal) begun_calls one
+    → IsEndOf book.grants book.limit session.conf.policy (journal ++ later) (length journal) begun_calls one
     → EndHolds session (terms_over session book) (journal ++ later) calls one
 end-of-begun session book journal later calls begun_calls one seen has is =
     let first = is.of.first in
@@ -124,12 +127,12 @@ end-of-begun session book journal later calls begun_calls one seen has is =
       holds =
           end-earlier book.grants book.limit session.conf.policy (journal ++ later) session.seen (length journal) (call_of begun.tenant begun.asked) one.end seen
           (subst (λ (c : Call). ItemHolds book.grants book.limit session.conf.policy (journal ++ later) (length journal) c one.end) call
-          (is.is.holds session.conf.policy));
+          is.holds);
     }
 
 pub ends-of-begun : (session : Session) (book : BookValue) (journal later : List Entry) (calls : List Asked) (begun_calls : List Begun) (ends : List CallEnd)
     → session.seen ≤ length journal → AllByRecursion (HasBegun session book.grants journal calls) begun_calls
-    → AllByRecursion (IsEndOf book.grants book.limit (journal ++ later) (length journal) begun_calls) ends
+    → AllByRecursion (IsEndOf book.grants book.limit session.conf.policy (journal ++ later) (length journal) begun_calls) ends
     → AllByRecursion (EndHolds session (terms_over session book) (journal ++ later) calls) ends
 ends-of-begun session book journal later calls begun_calls [] seen has are = tt
 ends-of-begun session book journal later calls begun_calls (one ∷ ends) seen has are = (
@@ -137,15 +140,29 @@ ends-of-begun session book journal later calls begun_calls (one ∷ ends) seen h
   ends-of-begun session book journal later calls begun_calls ends seen has are.1,
 )
 
-here-kept : (end : End) → StaysHere end → is_handed_back end ≡ 0
-here-kept (ended.Settled given) stays = refl
-here-kept (ended.Pushed load spent parked) stays = absurd stays
-here-kept ended.Memory stays = refl
+-- ---- How many there are
 
-pub none-handed-back : (grants : GrantsList) (limit : ℕ) (journal : List Entry) (since : ℕ) (begun_calls : List Begun) (ends : List CallEnd)
-    → AllByRecursion (IsEndOf grants limit journal since begun_calls) ends → handed_back ends ≡ 0
-none-handed-back grants limit journal since begun_calls [] are = refl
-none-handed-back grants limit journal since begun_calls (one ∷ ends) are =
-    let own : is_handed_back one.end ≡ 0 = here-kept one.end are.0.is.stays in
-    let others : handed_back ends ≡ 0 = none-handed-back grants limit journal since begun_calls ends are.1 in
-    omega (arith, own, others)
+rise-few : (start most : ℕ) (calls : List Begun) → PlacesRise start calls → AllByRecursion (λ one. one.place < most) calls → start ≤ most
+    → start + length calls ≤ most
+rise-few start most [] rise below by = omega (arith, by)
+rise-few start most (one ∷ calls) rise below by =
+    let less = below.0 in
+    let since = rise.0 in
+    let rest = rise-few (one.place + 1) most calls rise.1 below.1 (omega (arith, less)) in
+    omega (arith, since, rest)
+
+all-below : (session : Session) (grants : GrantsList) (journal : List Entry) (calls : List Asked) (begun_calls : List Begun)
+    → AllByRecursion (HasBegun session grants journal calls) begun_calls → AllByRecursion (λ one. one.place < length calls) begun_calls
+all-below session grants journal calls [] has = tt
+all-below session grants journal calls (one ∷ begun_calls) has = (
+  slice_get_within calls one.place has.0.asked has.0.at,
+  all-below session grants journal calls begun_calls has.1,
+)
+
+-- no more calls began than a batch has
+pub few-begun : (session : Session) (book : BookValue) (journal : List Entry) (begun_calls : List Begun) → HaveBegun session book journal begun_calls
+    → length begun_calls ≤ 64
+few-begun session book journal begun_calls begun =
+    let few = begun.awaits.few in
+    let rise = rise-few 0 (length begun.calls) begun_calls begun.places (all-below session book.grants journal begun.calls begun_calls begun.each) (omega arith) in
+    omega (arith, few, rise)

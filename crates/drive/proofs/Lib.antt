@@ -3,6 +3,8 @@ pub mod Held
 pub mod Reading
 pub mod Turns
 pub mod Passing
+pub mod Joining
+pub mod Handing
 pub mod Ways
 pub mod Replying
 pub mod Batching

@@ -2,6 +2,7 @@
 use Rattle.std.specs.List.{AllByRecursion}
 use Rattle.std.proofs.Common.{◌≡◌, ◌≤◌, ◌<◌, ◌+◌, ◌⊎◌, ℕ, List, [], ◌∷◌, ◌++◌, length, refl, sym, subst, ap, ◌∙◌, arith, append-nil}
 use Rattle.sp_base.specs.declared.calls.Call.{Call}
+use Rattle.sp_base.specs.declared.calls.Policy.{Policy}
 use Rattle.sp_base.specs.declared.numbers.TableId.{TableId}
 use Rattle.sp_base.specs.declared.outcomes.Outcome.{Outcome}
 use Rattle.sp_base.specs.declared.reads.ReadItem.{ReadItem}
@@ -25,26 +26,27 @@ use Rattle.journal.specs.Reads.{IsHeld}
 use Rattle.book.specs.declared.answers.Commit.{Commit}
 use Rattle.book.specs.declared.answers.Commit.TheVariants as commit
 use Rattle.book.specs.declared.ends.End.TheVariants as ended
-use Rattle.book.specs.Ends.{MomentsRise}
+use Rattle.book.specs.Ends.{ItemHolds, MomentsRise}
 use Rattle.book.specs.Standing.{BookValue, RanOn, StandsFor}
 use Rattle.book.specs.Verdict.{after_commit, entry_of, item_at, verdict}
 use Rattle.drive.specs.declared.running.Passed.{Passed}
 use Rattle.drive.specs.declared.running.Passed.TheVariants as passed
-use Rattle.drive.specs.Running.{Falls, HasPassed, IsEnd, IsPassed, Passes, Ran, SpendsAsMuch, left_of}
+use Rattle.drive.specs.Running.{Falls, HasPassed, IsPassed, Passes, Ran, SpendsAsMuch, left_of}
 use Rattle.drive.proofs.Reading.{held-now}
-use Rattle.drive.proofs.Turns.{KeepsParts, added, after-added, all-held-more, commit-ends, ran-kept, ran-longer, rise-more, turn-parts}
+use Rattle.drive.proofs.Turns.{KeepsParts, added, adds-commit, after-added, all-held-more, commit-ends, ran-kept, ran-longer, rise-more, turn-parts}
 
 stands-nil : (book : BookValue) (journal : List Entry) → StandsFor book journal → StandsFor book (journal ++ [])
 stands-nil book journal stands = subst (StandsFor book) (sym (append-nil journal)) stands
 
 -- the call has spent its quantum
-pub ran-passes : (book : BookValue) (journal : List Entry) (live next : Live) (quantum : ℕ) → StandsFor book journal
-    → next ≡ turn_of live quantum → next.phase ≡ phase.Ready → Ran book.grants journal live → Passes book book journal live (passed.GoesOn next)
-ran-passes book journal live next quantum stands is ready ran =
+pub ran-passes : (policy : Policy) (book : BookValue) (journal : List Entry) (live next : Live) (quantum : ℕ) → StandsFor book journal
+    → next ≡ turn_of live quantum → next.phase ≡ phase.Ready → Ran book.grants journal live → Passes policy book book journal live (passed.GoesOn next)
+ran-passes policy book journal live next quantum stands is ready ran =
     let keeps = turn-parts live next quantum is in
     record {
       later = [];
       stands = stands-nil book journal stands;
+      adds = refl;
       is = λ since by rise. record {
         same = keeps.call;
         is = record {
@@ -55,20 +57,21 @@ ran-passes book journal live next quantum stands is ready ran =
       };
     }
 
-passed-along : (grants : GrantsList) (limit : ℕ) (journal : List Entry) (since : ℕ) (live next : Live) (made : Passed) → next.call ≡ live.call
-    → IsPassed grants limit journal since next made → IsPassed grants limit journal since live made
-passed-along grants limit journal since live next (passed.GoesOn after) same is = record { same = is.same ∙ same; is = is.is }
-passed-along grants limit journal since live next (passed.Ends end) same is = subst (λ (call : Call). IsEnd grants limit journal since call end) same is
+passed-along : (grants : GrantsList) (limit : ℕ) (policy : Policy) (journal : List Entry) (since : ℕ) (live next : Live) (made : Passed) → next.call ≡ live.call
+    → IsPassed grants limit policy journal since next made → IsPassed grants limit policy journal since live made
+passed-along grants limit policy journal since live next (passed.GoesOn after) same is = record { same = is.same ∙ same; is = is.is }
+passed-along grants limit policy journal since live next (passed.Ends end) same is = subst (λ (call : Call). ItemHolds grants limit policy journal since call end) same is
 
 -- what is made of a call behind its turn is made of the call
-pub passes-along : (before after : BookValue) (journal : List Entry) (live next : Live) (quantum : ℕ) (made : Passed) → next ≡ turn_of live quantum
-    → Passes before after journal next made → Passes before after journal live made
-passes-along before after journal live next quantum made is passes =
+pub passes-along : (policy : Policy) (before after : BookValue) (journal : List Entry) (live next : Live) (quantum : ℕ) (made : Passed) → next ≡ turn_of live quantum
+    → Passes policy before after journal next made → Passes policy before after journal live made
+passes-along policy before after journal live next quantum made is passes =
     let keeps = turn-parts live next quantum is in
     record {
       later = passes.later;
       stands = passes.stands;
-      is = λ since by rise. passed-along before.grants before.limit (journal ++ passes.later) since live next made keeps.call
+      adds = passes.adds;
+      is = λ since by rise. passed-along before.grants before.limit policy (journal ++ passes.later) since live next made keeps.call
           (passes.is since by (subst (λ (reads : List ReadItem). MomentsRise since reads) (sym keeps.reads) rise));
     }
 
@@ -77,17 +80,18 @@ pub ran-turned : (grants : GrantsList) (journal : List Entry) (live next : Live)
 ran-turned grants journal live next quantum is ran = ran-kept grants journal live next (turn-parts live next quantum is) ran
 
 -- there is no memory
-pub memory-passes : (book : BookValue) (journal : List Entry) (live : Live) → StandsFor book journal → Passes book book journal live (passed.Ends ended.Memory)
-memory-passes book journal live stands = record {
+pub memory-passes : (policy : Policy) (book : BookValue) (journal : List Entry) (live : Live) → StandsFor book journal → Passes policy book book journal live (passed.Ends ended.Memory)
+memory-passes policy book journal live stands = record {
   later = [];
   stands = stands-nil book journal stands;
-  is = λ since by rise. record { holds = λ policy. tt; stays = tt };
+  adds = refl;
+  is = λ since by rise. tt;
 }
 
 -- the record joins the reads
-pub read-passes : (book : BookValue) (journal : List Entry) (live next : Live) (table : TableId) (key : List ℕ) → StandsFor book journal
-    → next ≡ given live (item_at journal table key) → Ran book.grants journal live → Passes book book journal live (passed.GoesOn next)
-read-passes book journal live next table key stands is ran =
+pub read-passes : (policy : Policy) (book : BookValue) (journal : List Entry) (live next : Live) (table : TableId) (key : List ℕ) → StandsFor book journal
+    → next ≡ given live (item_at journal table key) → Ran book.grants journal live → Passes policy book book journal live (passed.GoesOn next)
+read-passes policy book journal live next table key stands is ran =
     let item : ReadItem = item_at journal table key in
     let more : Ran book.grants journal (given live item) = record {
       held = all-held-more journal live.reads item ran.held (held-now journal table key);
@@ -97,6 +101,7 @@ read-passes book journal live next table key stands is ran =
     record {
       later = [];
       stands = stands-nil book journal stands;
+      adds = refl;
       is = λ since by rise. record {
         same = ap (λ (l : Live). l.call) is;
         is = record {
@@ -125,23 +130,25 @@ ran-of grants journal live call program rights reads of ran = record {
   held = subst (λ (list : List ReadItem). AllByRecursion (IsHeld journal) list) (sym of.reads_are) ran.held;
   named =
       subst (λ (p : Program). Names journal call p) (sym of.program_is)
-      (subst (λ (c : Call). Names journal c live.ext.program) (sym of.call_is) ran.named);
+      (subst (λ (c : Call). Names journal c live.ext.program) (sym of.call_is)
+      (record { text = live.ext.text; found = ran.named.found; spelled = ran.named.accepted.spelled }));
   own = of.rights_are ∙ ran.own ∙ ap (λ (c : Call). granted grants journal c.caller.tenant) (sym of.call_is);
 }
 
-pub end-passes : (before after : BookValue) (journal : List Entry) (live : Live) (call : Call) (program : Program) (rights : RightsList) (reads : List ReadItem) (outcome : Outcome) (writes : List Write) (made : Commit)
+pub end-passes : (policy : Policy) (before after : BookValue) (journal : List Entry) (live : Live) (call : Call) (program : Program) (rights : RightsList) (reads : List ReadItem) (outcome : Outcome) (writes : List Write) (made : Commit)
     → IsRunOf live call program rights reads → Ran before.grants journal live
     → AreAsked program call.args call.budget rights reads → IsComplete program call.args call.budget rights reads
     → EndsWith (mean program call.args call.budget (part reads rights)) outcome writes
     → (made ≡ commit.Memory) ⊎ (made ≡ verdict before.limit journal call (entry_of call outcome writes reads) outcome reads)
     → StandsFor after (after_commit made journal (entry_of call outcome writes reads))
-    → Passes before after journal live (passed.Ends (ended.Settled made))
-end-passes before after journal live call program rights reads outcome writes made of ran asked complete meant is stands = record {
+    → Passes policy before after journal live (passed.Ends (ended.Settled made))
+end-passes policy before after journal live call program rights reads outcome writes made of ran asked complete meant is stands = record {
   later = added made (entry_of call outcome writes reads);
   stands = subst (StandsFor after) (after-added made journal (entry_of call outcome writes reads)) stands;
+  adds = adds-commit before.limit journal call (entry_of call outcome writes reads) outcome reads made is;
   is = λ since by rise.
-      subst (λ (c : Call). IsEnd before.grants before.limit (journal ++ added made (entry_of call outcome writes reads)) since c (ended.Settled made)) of.call_is
-      (commit-ends before.grants before.limit journal since call program rights reads outcome writes made
+      subst (λ (c : Call). ItemHolds before.grants before.limit policy (journal ++ added made (entry_of call outcome writes reads)) since c (ended.Settled made)) of.call_is
+      (commit-ends before.grants before.limit policy journal since call program rights reads outcome writes made
       (ran-of before.grants journal live call program rights reads of ran) asked complete meant by
       (subst (λ (list : List ReadItem). MomentsRise since list) (sym of.reads_are) rise) is);
 }

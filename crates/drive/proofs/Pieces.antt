@@ -1,7 +1,7 @@
 -- What a piece of bytes led to.
 use Rattle.std.specs.Prelude.{true, false}
 use Rattle.std.specs.Bool.{OnFalse}
-use Rattle.std.proofs.Common.{◌≡◌, ℕ, Bool, List, [], ◌∷◌, ◌++◌, Option, Some, None, refl, sym, subst, ap, ◌∙◌}
+use Rattle.std.proofs.Common.{◌≡◌, ℕ, Bool, List, [], ◌∷◌, ◌++◌, length, Option, Some, None, refl, sym, subst, ap, ◌∙◌}
 use Rattle.sp_base.specs.Spelling.{frame}
 use Rattle.journal.specs.declared.entry.Entry.{Entry}
 use Rattle.records.specs.GrantsList.{GrantsList}
@@ -20,6 +20,7 @@ use Rattle.session.proofs.LongerSteps.{fits-longer}
 use Rattle.drive.specs.Hearing.{AllHeard, AreFramed, Drives, EndsPiece, Heard, Hears, Leads, MayBeDriven, frames_of}
 use Rattle.drive.specs.Running.{StandsOn}
 use Rattle.drive.proofs.Answering.{said-more}
+use Rattle.drive.proofs.Joining.{shown-more}
 use Rattle.drive.proofs.Replying.{fits-each}
 
 -- a session that has ended stands where it stood
@@ -38,31 +39,34 @@ other-driven other before after journal stands on fixed may = record {
 }
 
 -- how all bodies were heard, and then the piece ended, from one state
-leads-on : (terms : Terms) (journal : List Entry) (state : State) (bodies : List (List ℕ)) (broken : Option ℕ) (now new : Session) (said : List ℕ) (stopped : Bool) (driven : Driven)
+leads-on : (terms : Terms) (journal : List Entry) (start : ℕ) (state : State) (bodies : List (List ℕ)) (broken : Option ℕ) (now new : Session) (said : List ℕ) (stopped : Bool) (driven : Driven)
     → EndsPiece now new broken stopped said driven.stopped driven.said
-    → hearing.HearsFrom terms journal state bodies now [] said stopped → Leads terms journal state bodies broken new driven
-leads-on terms journal state bodies broken now new said true driven ends from = record {
+    → hearing.HearsFrom terms journal start state bodies now [] said stopped → Leads terms journal start state bodies broken new driven
+leads-on terms journal start state bodies broken now new said true driven ends from = record {
   answers = from.answers;
   last = from.last;
   heard = subst (λ (stop : Bool). Heard terms journal state bodies broken from.answers stop from.last) (sym ends.2)
       (hearing.stops_at from.answers from.last from.heard);
   said = ends.1 ∙ from.said;
+  shown = from.shown;
   stands = subst (λ (s : Session). Stands s from.last) (sym ends.0) from.stands;
 }
-leads-on terms journal state bodies None now new said false driven ends from = record {
+leads-on terms journal start state bodies None now new said false driven ends from = record {
   answers = from.answers;
   last = from.last;
   heard = subst (λ (stop : Bool). Heard terms journal state bodies None from.answers stop from.last) (sym ends.2)
       (hearing.goes_on from.answers from.last from.heard refl);
   said = ends.1 ∙ from.said;
+  shown = from.shown;
   stands = subst (λ (s : Session). Stands s from.last) (sym ends.0) from.stands;
 }
-leads-on terms journal state bodies (Some n) now new said false driven ends from = record {
+leads-on terms journal start state bodies (Some n) now new said false driven ends from = record {
   answers = from.answers ++ faulted fault.TooLong ∷ [];
   last = from.last;
   heard = subst (λ (stop : Bool). Heard terms journal state bodies (Some n) (from.answers ++ faulted fault.TooLong ∷ []) stop from.last) (sym ends.2)
       (hearing.too_long n from.answers from.last from.heard refl);
   said = said-more [] said driven.said from.answers (faulted fault.TooLong) from.said ends.1;
+  shown = shown-more start journal from.answers (faulted fault.TooLong ∷ []) from.shown;
   stands = subst (λ (s : Session). Stands s from.last) (sym ends.0) (stands-ended now from.last from.stands);
 }
 
@@ -76,7 +80,7 @@ piece-driven old now new before after piece framer then_framer journal bodies sa
   bodies = bodies;
   framed = framed;
   answered = λ state was.
-      leads-on (terms_over old before) (journal ++ hears.later) state bodies then_framer.broken now new said stopped driven ends (hears.from_each state was);
+      leads-on (terms_over old before) (journal ++ hears.later) (length journal) state bodies then_framer.broken now new said stopped driven ends (hears.from_each state was);
 }
 
 -- unless the piece ended it, the session may be driven on

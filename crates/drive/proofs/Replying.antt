@@ -17,7 +17,7 @@ use Rattle.session.specs.States.{State, Terms}
 use Rattle.session.specs.Steps.{Step}
 use Rattle.session.proofs.LongerSteps.{step-longer}
 use Rattle.drive.specs.Hearing as hearing
-use Rattle.drive.specs.Hearing.{Answered, GoesOn, IsAnswered, IsReadyAfter, IsReplyWithin, MayBeDriven, RepliesFrom, frames_of, reply_of}
+use Rattle.drive.specs.Hearing.{Answered, GoesOn, IsAnswered, IsReadyAfter, IsReplyWithin, MayBeDriven, RepliesFrom, answers_of, frames_of, reply_of}
 use Rattle.drive.proofs.Ways.{one-journal}
 
 is-answered-longer : (terms : Terms) (journal later : List Entry) (state : State) (body : List ℕ) (given : Answer) (next : State)
@@ -73,6 +73,17 @@ reply-leads terms journal state body message (answer.Fault code) new spelled lea
   hearing.by_fault (answer.Fault code) leads.next (spelled-message terms journal state body message _ leads.next spelled leads.step) (no-fault code),
   leads.stands,
 )
+
+-- the answer of such a reply
+pub answers-reply : (given : Answer) → answers_of (reply_of given) ≡ given ∷ []
+answers-reply (answer.Welcome rights at) = refl
+answers-reply (answer.Installed given) = refl
+answers-reply (answer.Answers items) = refl
+answers-reply (answer.Fetched given) = refl
+answers-reply (answer.Finished given) = refl
+answers-reply (answer.PutDone given) = refl
+answers-reply (answer.Text given) = refl
+answers-reply (answer.Fault code) = refl
 
 -- a reply that is an answer of a session is within its limits
 pub reply-within : (given : Answer) → IsWithin given → IsReplyWithin (reply_of given)

@@ -27,18 +27,17 @@ use Rattle.task.specs.Turning.{Live, after_run, ending, meaning_with, spending, 
 use Rattle.journal.specs.declared.entry.Entry.{Entry}
 use Rattle.journal.specs.Folds.{last_of}
 use Rattle.journal.specs.Granted.{granted}
-use Rattle.journal.specs.Legal.{Names}
 use Rattle.journal.specs.Reads.{IsHeld}
 use Rattle.journal.proofs.Versions.{slice_get-append_seam}
 use Rattle.book.specs.declared.answers.Commit.{Commit}
 use Rattle.book.specs.declared.answers.Commit.TheVariants as commit
 use Rattle.book.specs.declared.ends.End.TheVariants as ended
-use Rattle.book.specs.Ends.{IsSettled, IsVerdict, ItemHolds, MomentsRise, StandsIn, moment_of}
+use Rattle.book.specs.Ends.{IsSettled, IsVerdict, ItemHolds, MomentsRise, NamesExt, StandsIn, moment_of}
 use Rattle.book.specs.Standing.{RanOn}
 use Rattle.book.specs.Verdict.{after_commit, entry_of, is_full, moved, verdict, verdict_on}
-use Rattle.session.proofs.Longer.{found-longer}
-use Rattle.session.proofs.LongerSteps.{texts-longer}
-use Rattle.drive.specs.Running.{IsEnd, Ran}
+use Rattle.session.specs.Standing.{Adds}
+use Rattle.session.proofs.LongerSteps.{names-ext-longer}
+use Rattle.drive.specs.Running.{Ran, entry_of_end}
 use Rattle.drive.proofs.Held.{all-held-longer}
 
 -- ---- What a turn keeps
@@ -68,25 +67,17 @@ pub ran-kept : (grants : GrantsList) (journal : List Entry) (live next : Live) �
 ran-kept grants journal live next keeps ran = record {
   held = subst (λ (reads : List ReadItem). AllByRecursion (IsHeld journal) reads) (sym keeps.reads) ran.held;
   named =
-      subst (λ (ext : ExtValue). Names journal next.call ext.program) (sym keeps.ext)
-      (subst (λ (call : Call). Names journal call live.ext.program) (sym keeps.call) ran.named);
+      subst (λ (ext : ExtValue). NamesExt journal next.call ext) (sym keeps.ext)
+      (subst (λ (call : Call). NamesExt journal call live.ext) (sym keeps.call) ran.named);
   own = keeps.rights ∙ ran.own ∙ ap (λ (call : Call). granted grants journal call.caller.tenant) (sym keeps.call);
 }
 
 -- ---- Longer journals
 
-names-longer : (journal later : List Entry) (call : Call) (program : Program) → Names journal call program → Names (journal ++ later) call program
-names-longer journal later call program names = record {
-  text = names.text;
-  found = ap (λ (texts : List (List ℕ)). slice_get texts call.ext.0) (texts-longer journal later call.caller.tenant)
-      ∙ found-longer _ _ call.ext.0 names.text names.found;
-  spelled = names.spelled;
-}
-
 pub ran-longer : (grants : GrantsList) (journal later : List Entry) (live : Live) → Ran grants journal live → Ran grants (journal ++ later) live
 ran-longer grants journal later live ran = record {
   held = all-held-longer journal later live.reads ran.held;
-  named = names-longer journal later live.call live.ext.program ran.named;
+  named = names-ext-longer journal later live.call live.ext ran.named;
   own = ran.own;
 }
 
@@ -178,34 +169,36 @@ told-so : (given lack judged : Commit) → (given ≡ lack → ⊥) → (given �
 told-so given lack judged some (inl is) = absurd (some is)
 told-so given lack judged some (inr is) = is
 
+-- a commit adds the entry that it tells, or none
+pub adds-commit : (limit : ℕ) (journal : List Entry) (call : Call) (own : Entry) (outcome : Outcome) (reads : List ReadItem) (made : Commit)
+    → (made ≡ commit.Memory) ⊎ (made ≡ verdict limit journal call own outcome reads)
+    → Adds journal (added made own) (entry_of_end (ended.Settled made))
+adds-commit limit journal call own outcome reads (commit.Committed n shown) is =
+    let told : commit.Committed n shown ≡ verdict limit journal call own outcome reads =
+    told-so (commit.Committed n shown) commit.Memory (verdict limit journal call own outcome reads) (λ memory. cc) is in
+    (ap moment_of told ∙ verdict-at limit journal call own outcome reads, refl)
+adds-commit limit journal call own outcome reads (commit.Stale last at) is = refl
+adds-commit limit journal call own outcome reads (commit.Conflict table key read read_at now now_at) is = refl
+adds-commit limit journal call own outcome reads (commit.Full at) is = refl
+adds-commit limit journal call own outcome reads commit.Memory is = refl
+
 -- a run that was committed or refused has its end
-pub commit-ends : (grants : GrantsList) (limit : ℕ) (journal : List Entry) (since : ℕ) (call : Call) (program : Program) (rights : RightsList) (reads : List ReadItem) (outcome : Outcome) (writes : List Write) (given : Commit)
+pub commit-ends : (grants : GrantsList) (limit : ℕ) (policy : Policy) (journal : List Entry) (since : ℕ) (call : Call) (program : Program) (rights : RightsList) (reads : List ReadItem) (outcome : Outcome) (writes : List Write) (given : Commit)
     → RanOn grants journal call program rights reads → AreAsked program call.args call.budget rights reads
     → IsComplete program call.args call.budget rights reads → EndsWith (mean program call.args call.budget (part reads rights)) outcome writes
     → since ≤ length journal → MomentsRise since reads
     → (given ≡ commit.Memory) ⊎ (given ≡ verdict limit journal call (entry_of call outcome writes reads) outcome reads)
-    → IsEnd grants limit (journal ++ added given (entry_of call outcome writes reads)) since call (ended.Settled given)
-commit-ends grants limit journal since call program rights reads outcome writes (commit.Committed n shown) ran asked complete meant by rise is = record {
-  holds = λ policy. settled-now grants limit journal since call program rights reads outcome writes (commit.Committed n shown) ran asked complete meant by rise
-      (told-so (commit.Committed n shown) commit.Memory _ (λ memory. cc) is);
-  stays = tt;
-}
-commit-ends grants limit journal since call program rights reads outcome writes (commit.Stale last at) ran asked complete meant by rise is = record {
-  holds = λ policy. settled-now grants limit journal since call program rights reads outcome writes (commit.Stale last at) ran asked complete meant by rise
-      (told-so (commit.Stale last at) commit.Memory _ (λ memory. cc) is);
-  stays = tt;
-}
-commit-ends grants limit journal since call program rights reads outcome writes (commit.Conflict table key read read_at now now_at) ran asked complete meant by rise is = record {
-  holds = λ policy. settled-now grants limit journal since call program rights reads outcome writes (commit.Conflict table key read read_at now now_at) ran asked complete meant by rise
-      (told-so (commit.Conflict table key read read_at now now_at) commit.Memory _ (λ memory. cc) is);
-  stays = tt;
-}
-commit-ends grants limit journal since call program rights reads outcome writes (commit.Full at) ran asked complete meant by rise is = record {
-  holds = λ policy. settled-now grants limit journal since call program rights reads outcome writes (commit.Full at) ran asked complete meant by rise
-      (told-so (commit.Full at) commit.Memory _ (λ memory. cc) is);
-  stays = tt;
-}
-commit-ends grants limit journal since call program rights reads outcome writes commit.Memory ran asked complete meant by rise is = record {
-  holds = λ policy. tt;
-  stays = tt;
-}
+    → ItemHolds grants limit policy (journal ++ added given (entry_of call outcome writes reads)) since call (ended.Settled given)
+commit-ends grants limit policy journal since call program rights reads outcome writes (commit.Committed n shown) ran asked complete meant by rise is =
+    settled-now grants limit journal since call program rights reads outcome writes (commit.Committed n shown) ran asked complete meant by rise
+    (told-so (commit.Committed n shown) commit.Memory _ (λ memory. cc) is)
+commit-ends grants limit policy journal since call program rights reads outcome writes (commit.Stale last at) ran asked complete meant by rise is =
+    settled-now grants limit journal since call program rights reads outcome writes (commit.Stale last at) ran asked complete meant by rise
+    (told-so (commit.Stale last at) commit.Memory _ (λ memory. cc) is)
+commit-ends grants limit policy journal since call program rights reads outcome writes (commit.Conflict table key read read_at now now_at) ran asked complete meant by rise is =
+    settled-now grants limit journal since call program rights reads outcome writes (commit.Conflict table key read read_at now now_at) ran asked complete meant by rise
+    (told-so (commit.Conflict table key read read_at now now_at) commit.Memory _ (λ memory. cc) is)
+commit-ends grants limit policy journal since call program rights reads outcome writes (commit.Full at) ran asked complete meant by rise is =
+    settled-now grants limit journal since call program rights reads outcome writes (commit.Full at) ran asked complete meant by rise
+    (told-so (commit.Full at) commit.Memory _ (λ memory. cc) is)
+commit-ends grants limit policy journal since call program rights reads outcome writes commit.Memory ran asked complete meant by rise is = tt

@@ -1,5 +1,5 @@
 -- When frames that were heard are answered.
-use Rattle.std.specs.Prelude.{◌≡◌, ◌≢◌, ℕ, Bool, true, false, List, [], ◌∷◌, ◌++◌, Option, Some, None}
+use Rattle.std.specs.Prelude.{◌≡◌, ◌≢◌, ℕ, Bool, true, false, List, [], ◌∷◌, ◌++◌, length, Option, Some, None}
 use Rattle.std.specs.List.{flat_map}
 use Rattle.sp_base.specs.Spelling.{frame}
 use Rattle.journal.specs.declared.entry.Entry.{Entry}
@@ -20,6 +20,7 @@ use Rattle.session.specs.Steps.{Step, faulted, is_in_turn}
 use Rattle.drive.specs.declared.driving.Driven.{Driven}
 use Rattle.drive.specs.declared.driving.Reply.{Reply}
 use Rattle.drive.specs.declared.driving.Reply.TheVariants as reply
+use Rattle.drive.specs.Joining.{AreShown}
 
 -- an answer behind which the session goes on
 abbrev pub GoesOn : Answer → Type 0
@@ -90,16 +91,18 @@ pub record MayBeDriven (session : Session) (book : BookValue) : Type 0 where
   pub fits : (journal : List Entry) → StandsFor book journal → Fits session journal book.grants
   pub audit : session.conf.audit ≡ book.audit
 
--- from this state the bodies were answered so, and the session has come to another state
-pub record Leads (terms : Terms) (journal : List Entry) (state : State) (bodies : List (List ℕ)) (broken : Option ℕ) (new : Session) (driven : Driven) : Type 0 where
+-- from this state the bodies were answered so, and the session has come to another state; the answers tell each entry
+-- that joined the journal, from this number on
+pub record Leads (terms : Terms) (journal : List Entry) (from : ℕ) (state : State) (bodies : List (List ℕ)) (broken : Option ℕ) (new : Session) (driven : Driven) : Type 0 where
   pub answers : List Answer
   pub last : State
   pub heard : Heard terms journal state bodies broken answers driven.stopped last
   pub said : driven.said ≡ frames_of answers
+  pub shown : AreShown from journal answers
   pub stands : Stands new last
 
 -- What a piece of bytes led to, over a book that stood for this journal: the bodies of the frames that end in it are
--- answered by the journal for which the book then stands.
+-- answered by the journal for which the book then stands, and tell what joined it.
 pub record Drives (old new : Session) (before after : BookValue) (piece : List ℕ) (framer then_framer : Framing) (journal : List Entry) (driven : Driven) : Type 0 where
   pub later : List Entry
   pub stands : StandsFor after (journal ++ later)
@@ -107,7 +110,7 @@ pub record Drives (old new : Session) (before after : BookValue) (piece : List �
   pub framed : (fed : List ℕ) (given : List (List ℕ)) → streams.Stands framer fed given
       → streams.Stands then_framer (fed ++ piece) (given ++ bodies)
   pub answered : (state : State) → Stands old state
-      → Leads (terms_over old before) (journal ++ later) state bodies then_framer.broken new driven
+      → Leads (terms_over old before) (journal ++ later) (length journal) state bodies then_framer.broken new driven
 
 -- ---- Parts of it
 
@@ -125,10 +128,17 @@ RepliesFrom terms journal state body new (reply.Last (Some given)) =
 RepliesFrom terms journal state body new (reply.Last None) =
     (next : State) × Ends terms journal state body [] next × Stands new next
 
--- what was done about one body
+-- the answer of a reply, if it has one
+abbrev pub answers_of : Reply → List Answer
+answers_of (reply.GoesOn given) = given ∷ []
+answers_of (reply.Last (Some given)) = given ∷ []
+answers_of (reply.Last None) = []
+
+-- what was done about one body, and the answer tells each entry that joined by it
 pub record Replies (old new : Session) (before after : BookValue) (journal : List Entry) (body : List ℕ) (given : Reply) : Type 0 where
   pub later : List Entry
   pub stands : StandsFor after (journal ++ later)
+  pub shown : AreShown (length journal) (journal ++ later) (answers_of given)
   pub from_each : (state : State) → Stands old state → RepliesFrom (terms_over old before) (journal ++ later) state body new given
 
 -- the answer of a reply, if it has one, may be sent; a session that goes on may be driven on
@@ -152,18 +162,19 @@ frame_of (reply.Last None) = []
 frame_of (reply.Last (Some given)) = frame (spelling.answer given)
 
 -- from this state all bodies were heard, and what is said stands behind what was said before
-pub record HearsFrom (terms : Terms) (journal : List Entry) (state : State) (bodies : List (List ℕ)) (new : Session) (said_before said_after : List ℕ) (stopped : Bool) : Type 0 where
+pub record HearsFrom (terms : Terms) (journal : List Entry) (from : ℕ) (state : State) (bodies : List (List ℕ)) (new : Session) (said_before said_after : List ℕ) (stopped : Bool) : Type 0 where
   pub answers : List Answer
   pub last : State
   pub heard : AllHeard terms journal state bodies answers stopped last
   pub said : said_after ≡ said_before ++ frames_of answers
+  pub shown : AreShown from journal answers
   pub stands : Stands new last
 
 pub record Hears (old new : Session) (before after : BookValue) (journal : List Entry) (bodies : List (List ℕ)) (said_before said_after : List ℕ) (stopped : Bool) : Type 0 where
   pub later : List Entry
   pub stands : StandsFor after (journal ++ later)
   pub from_each : (state : State) → Stands old state
-      → HearsFrom (terms_over old before) (journal ++ later) state bodies new said_before said_after stopped
+      → HearsFrom (terms_over old before) (journal ++ later) (length journal) state bodies new said_before said_after stopped
 
 -- these bodies are those of the frames that end in the piece
 abbrev pub AreFramed : Framing → Framing → List ℕ → List (List ℕ) → Type 0

@@ -1,5 +1,5 @@
 -- The calls of a batch in their turns.
-use Rattle.std.specs.Prelude.{◌≡◌, ◌≤◌, ◌<◌, ℕ, ◌+◌, ◌-◌, List, [], ◌∷◌, ◌++◌, length, Some, slice_get, sum_by}
+use Rattle.std.specs.Prelude.{◌≡◌, ◌≤◌, ◌<◌, ℕ, ◌+◌, ◌-◌, List, [], ◌∷◌, ◌++◌, length, Option, Some, None, slice_get, sum_by}
 use Rattle.std.specs.List.{AllByRecursion}
 use Rattle.sp_base.specs.declared.calls.Call.{Call}
 use Rattle.sp_base.specs.declared.calls.Policy.{Policy}
@@ -7,18 +7,26 @@ use Rattle.records.specs.GrantsList.{GrantsList}
 use Rattle.task.specs.declared.phase.Phase.TheVariants.{Ready}
 use Rattle.task.specs.Turning.{Live}
 use Rattle.journal.specs.declared.entry.Entry.{Entry}
+use Rattle.journal.specs.Granted.{granted}
+use Rattle.journal.specs.Reads.{IsHeld}
+use Rattle.book.specs.declared.answers.Commit.TheVariants as commit
 use Rattle.book.specs.declared.ends.CallEnd.{CallEnd}
 use Rattle.book.specs.declared.ends.End.{End}
 use Rattle.book.specs.declared.ends.End.TheVariants as ended
-use Rattle.book.specs.Ends.{ItemHolds, MomentsRise}
-use Rattle.book.specs.Standing.{BookValue, RanOn, StandsFor}
+use Rattle.book.specs.Ends.{ItemHolds, MomentsRise, NamesExt}
+use Rattle.book.specs.Standing.{BookValue, StandsFor}
 use Rattle.session.specs.declared.plan.Begun.{Begun}
+use Rattle.session.specs.Standing.{Adds}
+use Rattle.session.specs.Waiting.{ends_at, is_place}
 use Rattle.drive.specs.declared.running.Passed.{Passed}
 use Rattle.drive.specs.declared.running.Passed.TheVariants as passed
+use Rattle.drive.specs.Joining.{AreCommitted}
 
--- what a live call has read belongs to the journal
-abbrev pub Ran : GrantsList → List Entry → Live → Type 0
-Ran grants journal live = RanOn grants journal live.call live.ext.program live.rights live.reads
+-- what a live call has read belongs to the journal, and its extension is the one that the call names there
+pub record Ran (grants : GrantsList) (journal : List Entry) (live : Live) : Type 0 where
+  pub held : AllByRecursion (IsHeld journal) live.reads
+  pub named : NamesExt journal live.call live.ext
+  pub own : live.rights ≡ granted grants journal live.call.caller.tenant
 
 -- A call that may have a turn: what it has read belongs to the journal, read at moments that do not decrease from
 -- `since` on.
@@ -26,17 +34,6 @@ pub record IsLive (grants : GrantsList) (journal : List Entry) (since : ℕ) (li
   pub ready : live.phase ≡ Ready
   pub ran : Ran grants journal live
   pub rise : MomentsRise since live.reads
-
--- an end that is no call handed back
-abbrev pub StaysHere : End → Type 0
-StaysHere (ended.Settled commit) = Unit {0}
-StaysHere (ended.Pushed load spent parked) = ⊥
-StaysHere ended.Memory = Unit {0}
-
--- the end of a call holds by the journal, and the call stays in the server
-pub record IsEnd (grants : GrantsList) (limit : ℕ) (journal : List Entry) (since : ℕ) (call : Call) (end : End) : Type 0 where
-  pub holds : (policy : Policy) → ItemHolds grants limit policy journal since call end
-  pub stays : StaysHere end
 
 -- The units that a live call has left, and one more: it ends at the latest in the turn in which it has spent its
 -- budget.
@@ -71,15 +68,26 @@ pub record StaysLive (grants : GrantsList) (journal : List Entry) (since : ℕ) 
   pub same : next.call ≡ live.call
   pub is : IsLive grants journal since next
 
-abbrev pub IsPassed : GrantsList → ℕ → List Entry → ℕ → Live → Passed → Type 0
-IsPassed grants limit journal since live (passed.GoesOn next) = StaysLive grants journal since live next
-IsPassed grants limit journal since live (passed.Ends end) = IsEnd grants limit journal since live.call end
+-- the call is live behind its turn, or its end holds by the journal
+abbrev pub IsPassed : GrantsList → ℕ → Policy → List Entry → ℕ → Live → Passed → Type 0
+IsPassed grants limit policy journal since live (passed.GoesOn next) = StaysLive grants journal since live next
+IsPassed grants limit policy journal since live (passed.Ends end) = ItemHolds grants limit policy journal since live.call end
+
+-- the number under which a call was committed in its turn, if it was
+abbrev pub entry_of_end : End → Option ℕ
+entry_of_end (ended.Settled (commit.Committed n outcome)) = Some n
+entry_of_end _ = None
+
+abbrev pub entry_of_turn : Passed → Option ℕ
+entry_of_turn (passed.GoesOn next) = None
+entry_of_turn (passed.Ends end) = entry_of_end end
 
 -- what a turn made of a call that was live over this journal, and of the journal
-pub record Passes (before after : BookValue) (journal : List Entry) (live : Live) (given : Passed) : Type 0 where
+pub record Passes (policy : Policy) (before after : BookValue) (journal : List Entry) (live : Live) (given : Passed) : Type 0 where
   pub later : List Entry
   pub stands : StandsFor after (journal ++ later)
-  pub is : (since : ℕ) → since ≤ length journal → MomentsRise since live.reads → IsPassed before.grants before.limit (journal ++ later) since live given
+  pub adds : Adds journal later (entry_of_turn given)
+  pub is : (since : ℕ) → since ≤ length journal → MomentsRise since live.reads → IsPassed before.grants before.limit policy (journal ++ later) since live given
 
 -- a call with this place is the one that began there
 pub record IsOf (begun : List Begun) (place : ℕ) (call : Call) : Type 0 where
@@ -93,17 +101,29 @@ pub record IsLiveOf (grants : GrantsList) (journal : List Entry) (since : ℕ) (
   pub of : IsOf begun one.place one.task.call
   pub is : IsLive grants journal since one.task
 
-pub record IsEndOf (grants : GrantsList) (limit : ℕ) (journal : List Entry) (since : ℕ) (begun : List Begun) (one : CallEnd) : Type 0 where
+pub record IsEndOf (grants : GrantsList) (limit : ℕ) (policy : Policy) (journal : List Entry) (since : ℕ) (begun : List Begun) (one : CallEnd) : Type 0 where
   pub call : Call
   pub of : IsOf begun one.place call
-  pub is : IsEnd grants limit journal since call one.end
+  pub holds : ItemHolds grants limit policy journal since call one.end
 
--- Behind some turns of the calls that began over this journal: what is live, and what has ended.
-pub record IsUnderWay (before after : BookValue) (journal : List Entry) (begun live : List Begun) (ends : List CallEnd) : Type 0 where
+-- how many of these calls have this place
+abbrev pub calls_at : ℕ → List Begun → ℕ
+calls_at place [] = 0
+calls_at place (one ∷ calls) = is_place place one.place + calls_at place calls
+
+-- each call that began is live or has its end
+abbrev pub AreAll : List Begun → List Begun → List CallEnd → Type 0
+AreAll begun live ends = (place : ℕ) → calls_at place live + ends_at place ends ≡ calls_at place begun
+
+-- Behind some turns of the calls that began over this journal: what is live, and what has ended; and what joined the
+-- journal.
+pub record IsUnderWay (policy : Policy) (before after : BookValue) (journal : List Entry) (begun live : List Begun) (ends : List CallEnd) : Type 0 where
   pub later : List Entry
   pub stands : StandsFor after (journal ++ later)
   pub live_so : AllByRecursion (IsLiveOf before.grants (journal ++ later) (length journal) begun) live
-  pub ends_so : AllByRecursion (IsEndOf before.grants before.limit (journal ++ later) (length journal) begun) ends
+  pub ends_so : AllByRecursion (IsEndOf before.grants before.limit policy (journal ++ later) (length journal) begun) ends
+  pub all : AreAll begun live ends
+  pub committed : AreCommitted (length journal) (journal ++ later) ends
 
 -- behind a turn the call is the last of those that are live, or its end the last of those that have come
 abbrev pub IsNoted : List Begun → List CallEnd → ℕ → Passed → List Begun → List CallEnd → Type 0

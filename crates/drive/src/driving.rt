@@ -140,7 +140,9 @@ fn run_batch(
     ensures fixed { KeepsFixed book.old book.new }
     ensures conf { session.new.conf ≡ session.old.conf }
 {
-    let ends = run_all(alloc, book, quantum, begun)?;
+    let policy = session.policy();
+    let room = session.room();
+    let ends = run_all(alloc, book, quantum, policy, room, begun)?;
     Ok(session.finish_batch(ends))
 }
 
@@ -225,8 +227,9 @@ fn end_piece(
 }
 
 /// Feeds a piece of the client's bytes, and answers each frame that ends in it. The calls of a batch run in
-/// turns of `quantum` units, one after another, until all have ended. After `Memory` session and framer are given
-/// up, and the book keeps what was installed.
+/// turns of `quantum` units, one after another, until all have ended. Behind a turn a call that goes on is handed
+/// back where the session's policy says so of the batch's live calls, and the session can park it. After `Memory`
+/// session and framer are given up, and the book keeps what was installed.
 pub fn drive(
     alloc: Global,
     session: &mut Session,

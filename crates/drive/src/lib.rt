@@ -5,6 +5,7 @@
 #![tactic(auto)]
 
 mod driving;
+mod pushing;
 mod running;
 mod sendable;
 

@@ -1,8 +1,8 @@
 -- The calls run, and their ends answer the batch.
-
-use Rattle.std.proofs.Common.{◌≡◌, arith}
-use Rattle.session.specs.Standing.{handed_back}
-use Rattle.drive.proofs.Batching.{all-fresh-begun, none-handed-back}
+use Rattle.std.proofs.Common.{◌≡◌, [], ap, sym, subst, arith}
+use Rattle.sp_base.specs.declared.calls.Policy.{Policy}
+use Rattle.drive.specs.Running.{IsUnderWay}
+use Rattle.drive.proofs.Batching.{all-fresh-begun, few-begun}
 use Rattle.drive.proofs.Finishing.{batch-answered}
 use Rattle.drive.proofs.driving.run_batch.Goals as goal
 
@@ -11,14 +11,18 @@ run_all-requires-clause-fresh c = λ journal stands.
     let begun = c.requires.begun journal stands in
     all-fresh-begun c.args.session.now c.args.book.now.grants journal begun.calls c.args.begun.items begun.each
 
+pub run_all-requires-clause-few : goal.run_all-requires-clause-few
+run_all-requires-clause-few c =
+    few-begun c.args.session.now c.args.book.now c.requires.stands.0 c.args.begun.items (c.requires.begun c.requires.stands.0 c.requires.stands.1)
+
 pub finish_batch-requires-clause-room : goal.finish_batch-requires-clause-room
-finish_batch-requires-clause-room c =
-    let ran = c.in_ok-ends.ensures.ran c.requires.stands.0 c.requires.stands.1 in
-    let none : handed_back c.in_ok-ends.ends.items ≡ 0 =
-    none-handed-back c.args.book.now.grants c.args.book.now.limit _ _ c.args.begun.items c.in_ok-ends.ends.items ran.ends_so in
-    omega (arith, none)
+finish_batch-requires-clause-room c = omega (arith, c.in_ok-ends.ensures.room, c.room.ensures)
 
 pub returns-clause-answered : goal.returns-clause-answered
 returns-clause-answered c = λ journal stands.
+    let begun = c.requires.begun journal stands in
     batch-answered c.args.session.now c.finish_batch.new.self c.args.book.now c.run_all.new.book journal c.args.begun.items c.in_ok-ends.ends.items c.finish_batch.result
-    (c.requires.fits journal stands) (c.in_ok-ends.ensures.ran journal stands) c.finish_batch.ensures.finished
+    (c.requires.fits journal stands)
+    (subst (λ (policy : Policy). IsUnderWay policy c.args.book.now c.run_all.new.book journal c.args.begun.items [] c.in_ok-ends.ends.items) c.policy.ensures
+    (c.in_ok-ends.ensures.ran journal stands)) c.finish_batch.ensures.finished
+    begun.places begun.waiting c.finish_batch.ensures.told

@@ -27,15 +27,15 @@ unreachable-requires c =
     (c.read.ensures.answer journal c.requires.stands.1) c.in-Denied.is
 
 pub returns-in-Memory-clause-passes : goal.returns-in-Memory-clause-passes
-returns-in-Memory-clause-passes c = λ journal stands. memory-passes c.args.book.now journal c.args.task stands
+returns-in-Memory-clause-passes c = λ policy journal stands. memory-passes policy c.args.book.now journal c.args.task stands
 
 pub returns-in-Ok-clause-passes : goal.returns-in-Ok-clause-passes
-returns-in-Ok-clause-passes c = λ journal stands.
+returns-in-Ok-clause-passes c = λ policy journal stands.
     let same : c.in-Found.item ≡ item_at journal c.args.table c.args.key =
     found-item c.args.book.now.grants journal c.call.result.now.caller.tenant c.args.table c.args.key c.in-Found.item c.read.result
     (c.read.ensures.answer journal stands) c.in-Found.is in
-    read-passes c.args.book.now journal c.args.task c.give.new.self c.args.table c.args.key stands
+    read-passes policy c.args.book.now journal c.args.task c.give.new.self c.args.table c.args.key stands
     (c.in-Ok.ensures.ok ∙ ap (λ (item : ReadItem). given c.args.task item) same) (c.requires.ran journal stands)
 
 pub returns-clause-passes : goal.returns-clause-passes
-returns-clause-passes c = λ journal stands. memory-passes c.args.book.now journal c.args.task stands
+returns-clause-passes c = λ policy journal stands. memory-passes policy c.args.book.now journal c.args.task stands

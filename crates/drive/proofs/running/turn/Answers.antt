@@ -11,13 +11,13 @@ pub returns-in-Ran-clause-passes : goal.returns-in-Ran-clause-passes
 returns-in-Ran-clause-passes c =
     let some : c.turn.result ≢ told.Memory = λ memory. (let clash : told.Ran ≡ told.Memory = sym c.in-Ran.is ∙ memory in cc) in
     let ready : c.turn.new.self.phase ≡ phase.Ready = ran-ready c.turn.new.self.phase (sym c.in-Ran.is ∙ c.turn.ensures.told some) in
-    λ journal stands. ran-passes c.args.book.now journal c.args.task c.turn.new.self c.args.quantum stands (c.turn.ensures.turn some) ready (c.requires.ran journal stands)
+    λ policy journal stands. ran-passes policy c.args.book.now journal c.args.task c.turn.new.self c.args.quantum stands (c.turn.ensures.turn some) ready (c.requires.ran journal stands)
 
 pub returns-in-Wants-clause-passes : goal.returns-in-Wants-clause-passes
 returns-in-Wants-clause-passes c =
     let some : c.turn.result ≢ told.Memory = λ memory. (let clash : told.Wants c.in-Wants.table c.in-Wants.key ≡ told.Memory = sym c.in-Wants.is ∙ memory in cc) in
-    λ journal stands. passes-along c.args.book.now c.args.book.now journal c.args.task c.turn.new.self c.args.quantum c.read.result
-    (c.turn.ensures.turn some) (c.read.ensures.passes journal stands)
+    λ policy journal stands. passes-along policy c.args.book.now c.args.book.now journal c.args.task c.turn.new.self c.args.quantum c.read.result
+    (c.turn.ensures.turn some) (c.read.ensures.passes policy journal stands)
 
 pub returns-in-Wants-clause-falls : goal.returns-in-Wants-clause-falls
 returns-in-Wants-clause-falls c =
@@ -29,7 +29,7 @@ returns-in-Wants-clause-falls c =
     (waiting-on c.turn.new.self.phase c.in-Wants.table c.in-Wants.key waits)) c.read.ensures.spent
 
 pub returns-in-Memory-clause-passes : goal.returns-in-Memory-clause-passes
-returns-in-Memory-clause-passes c = λ journal stands. memory-passes c.args.book.now journal c.args.task stands
+returns-in-Memory-clause-passes c = λ policy journal stands. memory-passes policy c.args.book.now journal c.args.task stands
 
 pub read-requires-clause-ran : goal.read-requires-clause-ran
 read-requires-clause-ran c =

@@ -12,10 +12,10 @@ use Rattle.client_core.proofs.known.Known.run.Goals as goal
 pub returns-in-Done-clause-sayable : goal.returns-in-Done-clause-sayable
 returns-in-Done-clause-sayable c =
     let carried = c.args.carried in
-    let is : mean c.args.ext.now.program carried.call.args carried.call.budget (part carried.reads c.args.self.now.rights)
+    let is : mean c.args.program.now carried.call.args carried.call.budget (part carried.reads c.args.self.now.rights)
     ≡ run.Done c.in-Done.reply c.in-Done.writes c.in-Done.used = first_of ((cc), search rules) in
     let caller : IsU32 carried.call.caller.number = first_of (omega arith, search rules) in
     let number : IsU64 carried.call.number.0 = first_of (omega arith, search rules) in
     let code : IsU64 c.in-Done.reply.code = first_of (omega arith, search rules) in
     rw c.finishing.ensures
-    (run-sayable c.args.self.now carried c.args.ext.now (run.Done c.in-Done.reply c.in-Done.writes c.in-Done.used) c.requires caller number code is)
+    (run-sayable c.args.self.now carried c.args.program.now (run.Done c.in-Done.reply c.in-Done.writes c.in-Done.used) c.requires caller number code is)
